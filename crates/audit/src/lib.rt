@@ -23,4 +23,3 @@ pub use audits::AuditRefused;
 pub use judges::audit;
 pub use laws::{answers_are_told, counts_are_enough, questions_have_one_answer, runs_are_audited};
 pub use replaying::Ways;
-pub use store_run::{ScriptsRun, run_scripts};

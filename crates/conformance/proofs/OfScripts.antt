@@ -6,6 +6,4 @@ pub mod StoreLines
 pub mod RunSteps
 pub mod Saving
 pub mod Arms
-pub mod Singles
-pub mod HeadLines
 pub mod Going

@@ -21,7 +21,7 @@ pub use laws::{
 pub use possible::contents_have_buckets;
 pub use runs::{Ran, Transcript};
 pub use saves::SavedBox;
-pub use scripts::{Desk, arms_take_lines, plain_edits_want_their_parts, run_script, run_scripts};
+pub use scripts::{arms_take_lines, plain_edits_want_their_parts};
 pub use sessions::{
     ActAnswer, AskedAt, OnceAnswer, SavedAt, SessionCalls, SessionDesk, answer_line,
     calls_take_lines, run_lines, sessions_are_a_run, sessions_go_on,

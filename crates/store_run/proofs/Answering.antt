@@ -1,49 +1,38 @@
 -- What each answer makes of a run.
-use Rattle.std.proofs.Common.{◌≡◌, ◌≢◌, ℕ, ◌+◌, ◌<◌, ◌≤◌, ◌⊎◌, append-nil, Bool, true, false, Some, None, Option, List, [], ◌∷◌, ◌++◌, length, length-append, refl, sym, ◌∙◌, ap, subst, arith, inl, inr}
-use Rattle.std.specs.Prelude.{IsTrue, ◌↔◌}
-use Rattle.std.specs.List.{Contains}
-use Rattle.std.proofs.lemmas.Bool.{false≢true}
-use Rattle.vw_cell.specs.declared.boxes.Boxed.{Boxed}
-use Rattle.vw_cell.specs.Counts.{number_in}
+use Rattle.std.proofs.Common.{◌≡◌, ◌≢◌, ℕ, ◌+◌, ◌<◌, ◌≤◌, append-nil, Bool, true, false, Some, None, Option, List, [], ◌∷◌, ◌++◌, length, length-append, refl, sym, ◌∙◌, ap, subst, arith}
 use Rattle.vox_read.specs.Contents.{Content}
 use Rattle.history_model.specs.declared.acts.Act.{Act}
 use Rattle.history_model.specs.declared.acts.Act.TheVariants.{Fill, Erase, Ball, Carve, Copy, Stamp, Tint, Undo, Redo}
 use Rattle.history_model.specs.declared.histories.Mark.{Mark}
 use Rattle.history_model.specs.declared.histories.Record.{Record}
-use Rattle.history_model.specs.declared.questions.Question.{Question}
 use Rattle.history_model.specs.declared.questions.Question.TheVariants as questions
 use Rattle.history_model.specs.Logs.{Log}
-use Rattle.history_model.specs.Tints.{Tints}
-use Rattle.history_model.specs.Worlds.{World, is_edit}
+use Rattle.history_model.specs.Worlds.{is_edit}
 use Rattle.node_words.specs.shapes.Shape.{Shape}
 use Rattle.node_words.specs.declared.shares.Full.{Full}
 use Rattle.node_words.specs.Gathering.{Grew}
 use Rattle.node_words.specs.Plans.{Layout}
 use Rattle.core_laws.specs.contents.Versions.{IsKept}
-use Rattle.core_laws.proofs.RootCells.{same_cells, same_root}
-use Rattle.script.specs.declared.commands.Command.TheVariants.{Edit, Forget, Ask, Save, Same, Head}
-use Rattle.script.specs.declared.commands.SaveName.{SaveName}
+use Rattle.script.specs.declared.commands.Command.TheVariants.{Edit, Forget}
 use Rattle.script.specs.declared.commands.ScriptLine.{ScriptLine}
 use Rattle.transcript.specs.declared.answers.Answer.{Answer}
 use Rattle.transcript.specs.declared.answers.Answer.TheVariants as answers
 use Rattle.transcript.specs.declared.answers.LineAnswer.{LineAnswer}
-use Rattle.conformance.specs.Answers.{IsStanding, IsReadable, IsForgotten, Answers, tells, saves, same, different, head, no_version, forgotten, is_head, nothing_to_undo, nothing_to_redo, log_full, asked_version, Names, target_at}
+use Rattle.conformance.specs.Answers.{IsStanding, IsReadable, IsForgotten, Answers, same, no_version, forgotten, is_head, nothing_to_undo, nothing_to_redo, log_full, Names, target_at}
 use Rattle.conformance.specs.Kinds.{is_resting, answer_at, IsAfter}
 use Rattle.conformance.specs.Refusing.{refused_by}
 use Rattle.conformance.specs.Running.{IsSoFar, GrowsByRecord}
-use Rattle.conformance.specs.Telling.{Tells, colour, count}
 use Rattle.conformance.proofs.LineKinds.{kept_readable, marked_forgotten}
 use Rattle.conformance.specs.scripts.Keeping.{MadeAndMet, last_moment}
 use Rattle.conformance.specs.scripts.Sessions.{TakesLine}
 use Rattle.conformance.proofs.OfScripts.Arms.{rebuilt_arm, undone_arm, forgot_arm, full_arm, late_arm, resting_arm, before_within}
-use Rattle.one_store.specs.Known.{IsStore, known_seen, stored_root}
+use Rattle.one_store.specs.Known.{known_seen}
 use Rattle.store_run.specs.declared.stored_versions.Versions.{Versions}
-use Rattle.store_run.specs.Kept.{plan_of, log_of, moment_of, world_of, tints_of, noted_of, AreVersions, LosesTree, HoldsSame}
-use Rattle.store_run.specs.Steps.{TellsHeldVersion, IsVersionMarked, LeavesAll, SharesRootOfVersion, MakesRoot, MeetsBucket, GainsRecord, GainsMark, side_of}
-use Rattle.store_run.specs.Answering.{GoesOnBy, nothing_to_go_to, saved_as}
+use Rattle.store_run.specs.Kept.{plan_of, log_of, moment_of, noted_of, AreVersions, LosesTree, HoldsSame}
+use Rattle.store_run.specs.Steps.{IsVersionMarked, LeavesAll, SharesRootOfVersion, MakesRoot, MeetsBucket, GainsRecord, GainsMark}
+use Rattle.store_run.specs.Answering.{GoesOnBy, nothing_to_go_to}
 use Rattle.store_run.proofs.Holding.{same_again}
-use Rattle.store_run.proofs.KeptWorlds.{tints_by_cells, cells_by_tints}
-use Rattle.store_run.proofs.Sparing.{versions_sound, gave_nothing}
+use Rattle.store_run.proofs.Sparing.{gave_nothing}
 use Rattle.conformance.proofs.OfScripts.Going.{goes_to}
 use Rattle.store_run.proofs.Targets.{Wants, grew_wanted, meets_full}
 
@@ -420,214 +409,3 @@ module _ (v : Versions) (session line : ℕ) (are : AreVersions v) where
       (Forget version) version refl
       (forgotten_now v session
       (record { line = line; command = Forget version }) version mark.1 scripts transcripts script transcript so_far number after))
-
-  pub tells_head : GoesOnBy v session (record { line = line; command = Head }) answers.Head v
-  tells_head =
-      rests v v session (record { line = line; command = Head }) answers.Head are
-      (gave_nothing v) refl refl
-      (λ scripts transcripts script transcript so_far number after. head)
-
-  -- ---- questions
-
-  ask_names : (version : Option ℕ) (question : Question)
-      → moment_of v < asked_version version (moment_of v)
-      → Names (IsStanding (log_of v).marks session line (moment_of v)) (moment_of v)
-      (Ask version question) (asked_version version (moment_of v))
-  ask_names None question past = absurd (omega arith)
-  ask_names (Some u) question past = refl
-
-  pub ask_missing : (version : Option ℕ) (question : Question) (asked : ℕ)
-      → asked ≡ asked_version version (moment_of v) → moment_of v < asked
-      → GoesOnBy v session (record { line = line; command = Ask version question })
-      (answers.NoVersion asked) v
-  ask_missing version question asked is past =
-      rests v v session (record { line = line; command = Ask version question })
-      (answers.NoVersion asked) are (gave_nothing v) refl refl
-      (names_missing v session (record { line = line; command = Ask version question }) asked past
-      (subst (λ (n : ℕ). Names (IsStanding (log_of v).marks session line (moment_of v))
-      (moment_of v) (Ask version question) n) (sym is)
-      (ask_names version question (subst (λ (n : ℕ). moment_of v < n) is past))))
-
-  -- the newest version has no mark
-  newest_unmarked : IsVersionMarked v (moment_of v) → ⊥
-  newest_unmarked mark = go mark.mark mark.same mark.listed
-    where
-      go : (m : Mark) → m.version ≡ moment_of v → Contains (log_of v).marks m → ⊥
-      go m is listed =
-          let dated =
-          Rattle.std.proofs.lemmas.List.Elements.All-contains
-          (λ k. (k.version < k.at) × (k.at ≤ moment_of v))
-          (log_of v).marks m are.stored.sound.legal.marked listed in
-          omega (arith, is, dated.0, dated.1)
-
-  ask_marked_names : (version : Option ℕ) (question : Question)
-      → IsVersionMarked v (asked_version version (moment_of v))
-      → Names (IsStanding (log_of v).marks session line (moment_of v)) (moment_of v)
-      (Ask version question) (asked_version version (moment_of v))
-  ask_marked_names None question mark = absurd (newest_unmarked mark)
-  ask_marked_names (Some u) question mark = refl
-
-  pub ask_marked : (version : Option ℕ) (question : Question) (asked : ℕ)
-      → asked ≡ asked_version version (moment_of v)
-      → (asked ≤ moment_of v) × IsVersionMarked v asked
-      → GoesOnBy v session (record { line = line; command = Ask version question })
-      (answers.Forgotten asked) v
-  ask_marked version question asked is mark =
-      let l : ScriptLine = record { line = line; command = Ask version question } in
-      rests v v session l (answers.Forgotten asked) are (gave_nothing v) refl refl
-      (λ scripts transcripts script transcript so_far number after. forgotten
-      (Ask version question) asked
-      (subst (λ (n : ℕ). Names (IsStanding (log_of v).marks session line (moment_of v))
-      (moment_of v) (Ask version question) n) (sym is)
-      (ask_marked_names version question (subst (λ (n : ℕ). IsVersionMarked v n) is mark.1)))
-      (forgotten_now v session l asked mark.1 scripts transcripts script transcript so_far number after))
-
-  save_names : (version : Option ℕ) (name : SaveName) (part : Boxed)
-      → (moment_of v < asked_version version (moment_of v))
-      ⊎ IsVersionMarked v (asked_version version (moment_of v))
-      → Names (IsStanding (log_of v).marks session line (moment_of v)) (moment_of v)
-      (Save version name part) (asked_version version (moment_of v))
-  save_names None name part (inl past) = absurd (omega arith)
-  save_names None name part (inr mark) = absurd (newest_unmarked mark)
-  save_names (Some u) name part why = refl
-
-  pub save_missing : (version : Option ℕ) (name : SaveName) (part : Boxed) (asked : ℕ)
-      → asked ≡ asked_version version (moment_of v) → moment_of v < asked
-      → GoesOnBy v session (record { line = line; command = Save version name part })
-      (answers.NoVersion asked) v
-  save_missing version name part asked is past =
-      rests v v session (record { line = line; command = Save version name part })
-      (answers.NoVersion asked) are (gave_nothing v) refl refl
-      (names_missing v session (record { line = line; command = Save version name part }) asked past
-      (subst (λ (n : ℕ). Names (IsStanding (log_of v).marks session line (moment_of v))
-      (moment_of v) (Save version name part) n) (sym is)
-      (save_names version name part (inl (subst (λ (n : ℕ). moment_of v < n) is past)))))
-
-  pub save_marked : (version : Option ℕ) (name : SaveName) (part : Boxed) (asked : ℕ)
-      → asked ≡ asked_version version (moment_of v)
-      → (asked ≤ moment_of v) × IsVersionMarked v asked
-      → GoesOnBy v session (record { line = line; command = Save version name part })
-      (answers.Forgotten asked) v
-  save_marked version name part asked is mark =
-      let l : ScriptLine = record { line = line; command = Save version name part } in
-      rests v v session l (answers.Forgotten asked) are (gave_nothing v) refl refl
-      (λ scripts transcripts script transcript so_far number after. forgotten
-      (Save version name part) asked
-      (subst (λ (n : ℕ). Names (IsStanding (log_of v).marks session line (moment_of v))
-      (moment_of v) (Save version name part) n) (sym is)
-      (save_names version name part (inr (subst (λ (n : ℕ). IsVersionMarked v n) is mark.1))))
-      (forgotten_now v session l asked mark.1 scripts transcripts script transcript so_far number after))
-
-  -- ---- two versions
-
-  pub same_first_missing : (a b : ℕ) → moment_of v < a
-      → GoesOnBy v session (record { line = line; command = Same a b }) (answers.NoVersion a) v
-  same_first_missing a b past =
-      rests v v session (record { line = line; command = Same a b }) (answers.NoVersion a) are
-      (gave_nothing v) refl refl
-      (names_missing v session (record { line = line; command = Same a b }) a past (inl refl))
-
-  pub same_missing : (a b : ℕ) → IsKept (log_of v) a → moment_of v < b
-      → GoesOnBy v session (record { line = line; command = Same a b }) (answers.NoVersion b) v
-  same_missing a b kept past =
-      rests v v session (record { line = line; command = Same a b }) (answers.NoVersion b) are
-      (gave_nothing v) refl refl
-      (names_missing v session (record { line = line; command = Same a b }) b past
-      (inr (refl, readable_now v session line a kept)))
-
-  pub same_first_marked : (a b : ℕ) → (a ≤ moment_of v) × IsVersionMarked v a
-      → GoesOnBy v session (record { line = line; command = Same a b }) (answers.Forgotten a) v
-  same_first_marked a b mark =
-      let l : ScriptLine = record { line = line; command = Same a b } in
-      rests v v session l (answers.Forgotten a) are (gave_nothing v) refl refl
-      (λ scripts transcripts script transcript so_far number after. forgotten (Same a b) a
-      (inl refl)
-      (forgotten_now v session l a mark.1 scripts transcripts script transcript so_far number after))
-
-  pub same_marked : (a b : ℕ) → IsKept (log_of v) a → (b ≤ moment_of v) × IsVersionMarked v b
-      → GoesOnBy v session (record { line = line; command = Same a b }) (answers.Forgotten b) v
-  same_marked a b kept mark =
-      let l : ScriptLine = record { line = line; command = Same a b } in
-      rests v v session l (answers.Forgotten b) are (gave_nothing v) refl refl
-      (λ scripts transcripts script transcript so_far number after. forgotten (Same a b) b
-      (inr (refl, readable_now v session line a kept))
-      (forgotten_now v session l b mark.1 scripts transcripts script transcript so_far number after))
-
-  pub same_told : (a b number : ℕ) → IsStore v.store number → IsKept (log_of v) a
-      → IsKept (log_of v) b → (is : Bool)
-      → (IsTrue is ↔ (stored_root v.store.roots a ≡ stored_root v.store.roots b))
-      → GoesOnBy v session (record { line = line; command = Same a b }) (answers.Same is) v
-  same_told a b number st of_a of_b is roots =
-      rests v v session (record { line = line; command = Same a b }) (answers.Same is) are
-      (gave_nothing v) refl refl
-      (λ scripts transcripts script transcript so_far k after. told is roots)
-    where
-      told : (r : Bool) → (IsTrue r ↔ (stored_root v.store.roots a ≡ stored_root v.store.roots b))
-          → Answers (plan_of v) v.models.models (log_of v)
-          (IsStanding (log_of v).marks session line (moment_of v)) session line (moment_of v)
-          (Same a b) (answers.Same r)
-      told true e =
-          same a b (readable_now v session line a of_a) (readable_now v session line b of_b)
-          (tints_by_cells v a b are.stored
-          (same_cells (plan_of v) v.models.models _ st.plan.side_low
-          (versions_sound v number are.stored st) a b of_a of_b (e.0 refl)))
-      told false e =
-          different a b (readable_now v session line a of_a) (readable_now v session line b of_b)
-          (λ tints. false≢true
-          (e.1 (same_root (plan_of v) v.models.models _ st.plan.side_low
-          (versions_sound v number are.stored st) a b of_a of_b
-          (cells_by_tints v a b are.stored tints))))
-
--- a question that is answered
-telling_rests : (side : ℕ) (world : World) (tints : Tints) (question : Question) (answer : Answer)
-    → Tells side world tints question answer
-    → (is_resting answer ≡ true)
-    × ((n : ℕ) (version : Option ℕ) → refused_by (Ask version question) n answer ≡ [])
-telling_rests side world tints question answer t = go question answer t
-  where
-    go : (q : Question) (a : Answer) → Tells side world tints q a
-        → (is_resting a ≡ true)
-        × ((n : ℕ) (version : Option ℕ) → refused_by (Ask version q) n a ≡ [])
-    go _ _ (Rattle.conformance.specs.Telling.is c set e) = (refl, λ n version. refl)
-    go _ _ (colour c tint e) = (refl, λ n version. refl)
-    go _ _ (count b cells e) = (refl, λ n version. refl)
-    go _ _ (Rattle.conformance.specs.Telling.faces b number e) = (refl, λ n version. refl)
-    go _ _ (Rattle.conformance.specs.Telling.extent least e) = (refl, λ n version. refl)
-    go _ _ (Rattle.conformance.specs.Telling.hit from h found e) = (refl, λ n version. refl)
-
-pub asks : (v w : Versions) (session line : ℕ) (version : Option ℕ) (question : Question)
-    (asked : ℕ) (answer : Answer)
-    → AreVersions v → asked ≡ asked_version version (moment_of v) → IsKept (log_of v) asked
-    → LeavesAll v w
-    → TellsHeldVersion v asked question answer
-    → GoesOnBy v session (record { line = line; command = Ask version question }) answer w
-asks v w session line version question asked answer are is kept leaves told =
-    let r = telling_rests (side_of v) (world_of v asked) (tints_of v asked) question answer told in
-    rests v w session
-    (record { line = line; command = Ask version question }) answer are leaves r.0
-    (r.1 (moment_of v) version)
-    (λ scripts transcripts script transcript so_far number after. tells version question answer
-    (subst (λ (n : ℕ). IsReadable (IsStanding (log_of v).marks session line (moment_of v))
-    (moment_of v) n) is (readable_now v session line asked kept))
-    (subst (λ (n : ℕ). TellsHeldVersion v n question answer) is told))
-
--- a save whose cells were counted
-pub saves_count : (v w : Versions) (session line : ℕ) (version : Option ℕ) (name : SaveName)
-    (part : Boxed) (asked : ℕ) (answer : Answer)
-    → AreVersions v → asked ≡ asked_version version (moment_of v) → IsKept (log_of v) asked
-    → LeavesAll v w
-    → TellsHeldVersion v asked (questions.Count part) answer
-    → GoesOnBy v session (record { line = line; command = Save version name part })
-    (saved_as answer) w
-saves_count v w session line version name part asked answer are is kept leaves told = go answer told
-  where
-    go : (a : Answer) → TellsHeldVersion v asked (questions.Count part) a
-        → GoesOnBy v session (record { line = line; command = Save version name part })
-        (saved_as a) w
-    go _ (count _ cells e) =
-        rests v w session (record { line = line; command = Save version name part })
-        (answers.Saved cells) are leaves refl refl
-        (λ scripts transcripts script transcript so_far number after. saves version name part cells
-        (subst (λ (n : ℕ). IsReadable (IsStanding (log_of v).marks session line (moment_of v))
-        (moment_of v) n) is (readable_now v session line asked kept))
-        (e ∙ ap (λ (n : ℕ). number_in part (world_of v n)) is))

@@ -12,11 +12,7 @@ use Rattle.history_model.specs.Stores.{stored_in}
 use Rattle.history_model.specs.Tints.{SameTints}
 use Rattle.history_model.specs.Worlds.{World, is_edit}
 use Rattle.history_model.proofs.MarkLaws.{whole_again}
-use Rattle.node_words.specs.shapes.Shape.{ShowsCells}
-use Rattle.node_words.specs.shapes.Tree.{shape_of}
-use Rattle.core_laws.specs.contents.Aligned.{world_block}
-use Rattle.core_laws.specs.contents.Versions.{IsKept, SameWorld}
-use Rattle.one_store.specs.Known.{root_tree, stored_root}
+use Rattle.core_laws.specs.contents.Versions.{SameWorld}
 use Rattle.act_rebuilds.specs.Drawn.{HaveTints}
 use Rattle.core_laws.proofs.OfTints.AgreeLaws.{stored_same, tints_same}
 use Rattle.core_laws.proofs.OfTints.TintBounds.{versions_small}
@@ -61,15 +57,6 @@ pub store_plainly : (v : Versions) → AreVersions v → (version : ℕ)
 store_plainly v are version =
     ap (λ (l : ℕ). stored_in (2 ^ l) v.models.models v.records.items version) (sym are.stored.side)
     ∙ stored_plainly v (plain_log v are) version
-
--- the root of a version shows the cells of the world
-pub shown_plainly : (v : Versions) (version : ℕ) → AreVersions v → IsKept (log_of v) version
-    → ShowsCells (world_block (plan_of v).side)
-    (shape_of (root_tree v.store (stored_root v.store.roots version))) (world_of v version)
-shown_plainly v version are kept =
-    subst (λ (w : World). ShowsCells (world_block (plan_of v).side)
-    (shape_of (root_tree v.store (stored_root v.store.roots version))) w)
-    (store_plainly v are version) (are.stored.sound.shown version kept)
 
 -- ---- versions with tints
 

@@ -9,7 +9,6 @@ pub mod Logging
 pub mod Targets
 pub mod Answering
 pub mod Ending
-pub mod Pinning
 pub mod Files
 pub mod Opening
 pub mod StampActs

@@ -6,7 +6,6 @@ use Rattle.history_model.specs.declared.acts.Act.TheVariants.{Fill, Erase, Ball,
 use Rattle.history_model.specs.Logs.{Log, IsLegal, kept_side, suits_tints, world_side}
 use Rattle.history_model.specs.Stores.{edited_in, stored_in}
 use Rattle.history_model.specs.Worlds.{World}
-use Rattle.history_model.specs.Moments.{world_has, world_tint}
 use Rattle.node_words.specs.declared.shapes.names.Name.{Name}
 use Rattle.node_words.specs.shapes.Shape.{Shape, ShowsCells}
 use Rattle.node_words.specs.shapes.Tree.{Tree, shape_of}
@@ -520,23 +519,10 @@ pub stays_seen : (v : Versions) (s : Known) → SparesRoots v.store s
 stays_seen v s spares seen =
     record { stay = record { models = refl; log = refl; spares = spares }; seen = seen }
 
-pub kept_still : (a v : Versions) (version : ℕ) → StayVersions a v → IsKept (log_of a) version
-    → IsKept (log_of v) version
-kept_still a v version stay kept = subst (λ (l : Log). IsKept l version) (sym stay.log) kept
-
 pub question_still : (a v : Versions) (question : Question) → StayVersions a v
     → QuestionFits (side_of a) question → QuestionFits (side_of v) question
 question_still a v question stay fits =
     subst (λ (l : Log). QuestionFits (world_side l) question) (sym stay.log) fits
-
-pub told_still : (a v : Versions) (version : ℕ) (question : Question) (answer : Answer)
-    → StayVersions a v
-    → TellsHeldVersion v version question answer → TellsHeldVersion a version question answer
-told_still a v version question answer stay told =
-    subst (λ (l : Log). Tells (world_side l) (world_has a.models.models l.records version)
-    (world_tint a.models.models l.records version) question answer) stay.log
-    (subst (λ (ms : List Content). Tells (side_of v) (world_has ms v.records.items version)
-    (world_tint ms v.records.items version) question answer) stay.models told)
 
 pub shared_tree : (a v : Versions) (version : ℕ) (base : Option Name)
     → SharesRootOfVersion a version base v → HoldsTree v.store base

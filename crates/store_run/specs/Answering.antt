@@ -25,8 +25,3 @@ pub record GoesOnBy (old : Versions) (session : ℕ) (l : ScriptLine) (answer : 
 abbrev pub nothing_to_go_to : Act → Answer
 nothing_to_go_to Redo = answers.NothingToRedo
 nothing_to_go_to other = answers.NothingToUndo
-
--- the answer to a save, by that to the count of its box
-abbrev pub saved_as : Answer → Answer
-saved_as (answers.Count cells) = answers.Saved cells
-saved_as other = other

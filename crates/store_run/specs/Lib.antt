@@ -1,10 +1,7 @@
 pub mod Owned
 pub mod Kept
 pub mod Steps
-pub mod Pins
 pub mod Answering
-pub mod Desks
-pub mod Open
 pub mod Worlds
 pub mod Stamps
 pub mod Changing

@@ -1,17 +1,16 @@
-//! How versions answer the lines of scripts.
-ghost use Rattle.std.specs.Prelude.{◌≡◌, ◌+◌, ◌<◌, ◌≤◌, ◌^◌, Bool, true, false};
+//! What acts and marks make of versions, and how they are answered.
+ghost use Rattle.std.specs.Prelude.{◌≡◌, ◌<◌, ◌≤◌, ◌^◌, Bool, true, false};
 ghost use Rattle.history_model.specs.Worlds.{is_edit};
 ghost use Rattle.history_model.specs.Logs.{FitsWorld, suits_tints};
 ghost use Rattle.node_words.specs.shapes.Weights.{number_of_trees};
-ghost use Rattle.script.specs.Fitting.{QuestionFits};
-ghost use Rattle.script.specs.declared.commands.Command.TheVariants.{Edit, Forget, Ask, Same};
-ghost use Rattle.conformance.specs.Answers.{target_at, asked_version, mark_of};
+ghost use Rattle.script.specs.declared.commands.Command.TheVariants.{Edit, Forget};
+ghost use Rattle.conformance.specs.Answers.{target_at, mark_of};
 ghost use Rattle.store_run.specs.Kept.{log_of, moment_of, AreStoredVersions, AreVersions, HoldsSame, HasRecordRoom};
 ghost use Rattle.store_run.specs.Answering.{GoesOnBy, nothing_to_go_to};
 ghost use Rattle.store_run.specs.Changing.{Changes, AnswersForget};
 
 use crate::stored_versions::{RECORDS, VersionFound, Versions};
-use history_model::{Act, Mark, Question, Record};
+use history_model::{Act, Mark, Record};
 use node_words::Steps;
 use std::sync::ledger::Ledger;
 use transcript::Answer;
@@ -137,64 +136,6 @@ impl Versions {
                 Answer::Forgot(version)
             }
         }
-    }
-
-    /// The version that is asked for: the newest where none is named.
-    pub(crate) fn asked(&self, version: Option<u32>) -> u32
-        requires { AreStoredVersions self.now }
-        ensures { result ≡ asked_version version (moment_of self.now) }
-    {
-        match version {
-            Some(version) => version,
-            None => self.moment(),
-        }
-    }
-
-    #[tactic(auto, using(crate::proofs::Rebuilding::question_here, crate::proofs::Answering::ask_missing, crate::proofs::Answering::ask_marked, crate::proofs::Answering::asks, crate::proofs::Holding::same_held))]
-    pub(crate) fn tell<L: Ledger>(
-        &mut self,
-        session: u16,
-        line: u32,
-        version: Option<u32>,
-        question: Question,
-        steps: &mut Steps<L>,
-    ) -> Answer
-        requires are { AreVersions self.old }
-        requires few { number_of_trees self.old.store.told.held ≤ 2048 }
-        requires fits { QuestionFits (2 ^ self.old.side) question }
-        ensures are { AreVersions self.new }
-        ensures goes_on { GoesOnBy self.old session
-            (record { line = line; command = Ask version question }) result self.new }
-        ensures same { HoldsSame self.old.store self.new.store }
-    {
-        let _ = (session, line);
-        let asked = self.asked(version);
-        match self.find(asked) {
-            VersionFound::NotThere => Answer::NoVersion(asked),
-            VersionFound::Marked => Answer::Forgotten(asked),
-            VersionFound::Kept => self.ask(asked, question, steps),
-        }
-    }
-
-    #[tactic(auto, using(crate::proofs::Answering::same_first_missing, crate::proofs::Answering::same_first_marked, crate::proofs::Answering::same_missing, crate::proofs::Answering::same_marked, crate::proofs::Answering::same_told))]
-    pub(crate) fn compare(&self, session: u16, line: u32, v: u32, w: u32) -> Answer
-        requires are { AreVersions self.now }
-        ensures { GoesOnBy self.now session (record { line = line; command = Same v w }) result
-            self.now }
-    {
-        let _ = (session, line);
-        let _number = self.store.number();
-        match self.find(v) {
-            VersionFound::Kept => {}
-            VersionFound::NotThere => return Answer::NoVersion(v),
-            VersionFound::Marked => return Answer::Forgotten(v),
-        }
-        match self.find(w) {
-            VersionFound::Kept => {}
-            VersionFound::NotThere => return Answer::NoVersion(w),
-            VersionFound::Marked => return Answer::Forgotten(w),
-        }
-        Answer::Same(self.has_same_roots(v, w))
     }
 }
 

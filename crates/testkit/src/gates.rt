@@ -1,8 +1,5 @@
-//! For tests: gates at which workers wait for each other, so that a test says how they meet. Its
-//! own tests show that workers do meet.
+//! For tests: gates at which workers wait for each other, so that a test says how they meet.
 
-#[cfg(test)]
-mod adders;
 mod meetings;
 mod reached;
 mod turns;

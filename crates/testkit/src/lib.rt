@@ -1,7 +1,8 @@
+//! For tests: gates at which workers meet, worlds in a store, and models to stamp into them.
 #![tactic(auto)]
 
 mod gates;
 mod worlds;
 
 pub use gates::{Meeting, Moment, Place, Rule, Turns};
-pub use worlds::{Drawing, Draws, Found, Grid, Refusal, StoredWorld};
+pub use worlds::{Drawing, Found, Refusal, StoredWorld};

@@ -1,3 +1,2 @@
-pub mod HandLaws
 pub mod OfStores
 pub mod OfReach

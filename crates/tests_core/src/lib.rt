@@ -1,15 +1,9 @@
-//! Tests of the pure core: its buckets, events with the replies that its table gives, and the
-//! store for one thread beside it. It holds tests alone.
+//! Tests of the pure core: its buckets and events with the replies that its table gives; of the
+//! store for one thread, DAG files, questions, regions and scenes. It holds tests alone.
 #![tactic(auto)]
 
 #[cfg(test)]
 mod buckets;
-#[cfg(test)]
-mod hands;
-#[cfg(test)]
-mod mirrors;
-#[cfg(test)]
-mod pair_tests;
 #[cfg(test)]
 mod plans;
 #[cfg(test)]

@@ -2,11 +2,9 @@
 //! is refused and where, what a file tells of its versions, and files that are written of a
 //! store's versions. It holds tests and what they call alone.
 
-mod changes;
 mod looks;
 mod worlds;
 
-pub use changes::{changes_of, cuts_of};
 pub use looks::{Counted, fault_in, look_at};
 pub use worlds::full_world_file;
 
@@ -18,7 +16,5 @@ mod dag_tests;
 mod files;
 #[cfg(test)]
 mod slot_tests;
-#[cfg(test)]
-mod slots;
 #[cfg(test)]
 mod under;

@@ -1,9 +1,9 @@
-use crate::plays::{Tally, acts_done, drawing, floor, number_of_cells, play};
+use crate::edited::{acts_done, floor, number_of_cells, stencil_of, world_of};
 use edit_stamp::{Shown, Stencil};
 use history_model::{Act, Question};
 use node_words::{Full, Plan};
 use std::alloc::Global;
-use testkit::{Drawing, Draws, Found, StoredWorld};
+use testkit::{Drawing, Found, StoredWorld};
 use vw_cell::{Ball, Boxed, Cell, Side};
 
 const ORIGIN: Cell = Cell { x: 0, y: 0, z: 0 };
@@ -93,23 +93,6 @@ const VOXELS: &[[u8; 4]] = &[
     [2, 3, 0, 3],
     [1, 1, 1, 255],
 ];
-
-fn stencil_of(alloc: Global, size: [u8; 3], voxels: &[[u8; 4]]) -> Option<Stencil> {
-    match Vec::from_slice(alloc, voxels) {
-        Ok(voxels) => Drawing { size, voxels }.stencil(alloc),
-        Err(_) => None,
-    }
-}
-
-fn world_of(alloc: Global, side: u32, buckets: u16, cap: u16) -> Option<StoredWorld> {
-    let Some(side) = Side::new(side) else {
-        return None;
-    };
-    match Plan::even(side, buckets, cap) {
-        Some(plan) => StoredWorld::empty(alloc, &plan).ok(),
-        None => None,
-    }
-}
 
 // The world after these edits, where none meets a full bucket and no share stays held.
 fn edited(alloc: Global, side: u32, acts: &[Act], stencil: &Stencil) -> Option<StoredWorld> {
@@ -523,96 +506,4 @@ fn full_buckets_are_told(rt: HostRuntime) {
     for &(side, acts, level) in CROWDED {
         assert!(rt; meet_full(rt.alloc(), side, acts, level), "side {side}");
     }
-}
-
-/// Sides, the sizes of models, and numbers of edits.
-const DRAWN: &[(u32, [u8; 3], u32)] = &[
-    (4, [3, 4, 2], 400),
-    (8, [5, 4, 3], 400),
-    (16, [9, 6, 7], 200),
-    (32, [9, 12, 7], 80),
-];
-
-// What comes of random edits, with so many buckets a level, each for so many nodes.
-fn tally(
-    alloc: Global,
-    draws: &mut Draws,
-    model: &Drawing,
-    side: u32,
-    buckets: u16,
-    cap: u16,
-    number: u32,
-) -> Option<Tally> {
-    match world_of(alloc, side, buckets, cap) {
-        Some(mut world) => play(alloc, &mut world, draws, model, number),
-        None => None,
-    }
-}
-
-// Whether so many random edits, with a random model of this size, are made, and each as of plain
-// cells.
-fn are_plain(alloc: Global, draws: &mut Draws, side: u32, size: [u8; 3], number: u32) -> bool {
-    let Some(model) = drawing(alloc, draws, size) else {
-        return false;
-    };
-    match tally(alloc, draws, &model, side, 64, 64, number) {
-        Some(came) => came.wrong == 0 && came.made == number,
-        None => false,
-    }
-}
-
-#[test]
-fn random_edits_are_those_of_plain_cells(rt: HostRuntime) {
-    let mut draws = Draws::new(7);
-    for &(side, size, number) in DRAWN {
-        assert!(rt;
-            are_plain(rt.alloc(), &mut draws, side, size, number),
-            "side {side}"
-        );
-    }
-}
-
-// Random edits in one bucket a level, for each number of nodes from 1 up.
-fn crowded(alloc: Global, draws: &mut Draws, model: &Drawing, side: u32) -> Option<Tally> {
-    let mut sum = Tally {
-        made: 0,
-        full: 0,
-        wrong: 0,
-    };
-    for cap in 1..=32u16 {
-        let Some(came) = tally(alloc, draws, model, side, 1, cap, 30) else {
-            return None;
-        };
-        sum.full = sum.full.saturating_add(came.full);
-        sum.wrong = sum.wrong.saturating_add(came.wrong);
-    }
-    Some(sum)
-}
-
-// Whether full buckets are met in worlds of each side, and change nothing.
-fn all_crowded(alloc: Global, draws: &mut Draws, model: &Drawing, sides: &[u32]) -> bool {
-    for &side in sides {
-        match crowded(alloc, draws, model, side) {
-            Some(came) => {
-                if came.wrong > 0 || came.full == 0 {
-                    return false;
-                }
-            }
-            None => return false,
-        }
-    }
-    true
-}
-
-fn crowds(alloc: Global) -> bool {
-    let mut draws = Draws::new(11);
-    match drawing(alloc, &mut draws, [4, 4, 3]) {
-        Some(model) => all_crowded(alloc, &mut draws, &model, &[4, 8, 16]),
-        None => false,
-    }
-}
-
-#[test]
-fn full_buckets_leave_the_store_as_it_was(rt: HostRuntime) {
-    assert!(rt; crowds(rt.alloc()));
 }

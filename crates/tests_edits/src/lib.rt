@@ -1,6 +1,5 @@
-//! Tests of the edits over a store: rows of what they make, random edits against plain cells, full
-//! buckets, and how many turns large fills take. It holds tests alone, over the store for one
-//! thread.
+//! Tests of the edits over a store: rows of what they make, full buckets, and how many turns large
+//! fills take. It holds tests alone, over the store for one thread.
 #![tactic(auto)]
 
 #[cfg(test)]
@@ -10,6 +9,6 @@ mod colours;
 #[cfg(test)]
 mod edit_tests;
 #[cfg(test)]
-mod plays;
+mod edited;
 #[cfg(test)]
 mod turns;

@@ -2,6 +2,8 @@
 //! says, and as they may. It holds tests alone, over threads of their own.
 
 #[cfg(test)]
+mod adders;
+#[cfg(test)]
 mod meeting_tests;
 #[cfg(test)]
 mod order_tests;

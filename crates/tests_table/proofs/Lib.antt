@@ -1,4 +1,3 @@
 pub mod Giving
 pub mod Making
 pub mod Overs
-pub mod Pairs

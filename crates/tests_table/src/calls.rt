@@ -134,8 +134,8 @@ pub fn begun(alloc: Global, plan: &Plan, sessions: u16) -> Option<(NodeTable, Ve
     }
 }
 
-/// The plan of a world of side 8, with one bucket of so many slots on each level.
-pub fn one_bucket(cap: u16) -> Option<Plan> {
+// The plan of a world of side 8, with one bucket of so many slots on each level.
+fn one_bucket(cap: u16) -> Option<Plan> {
     match Side::new(8) {
         Some(side) => Plan::even(side, 1, cap),
         None => None,

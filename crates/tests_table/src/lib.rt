@@ -1,15 +1,11 @@
-//! Tests of a table of nodes, on one thread and on many: what its calls answer beside the pure
-//! core, and what is left when a table is closed. It holds tests alone.
+//! Tests of a table of nodes, on one thread and on many: what its calls answer, and what is left
+//! when a table is closed. It holds tests alone.
 #![tactic(auto)]
 
 #[cfg(test)]
 mod calls;
 #[cfg(test)]
 mod closes;
-#[cfg(test)]
-mod cores;
-#[cfg(test)]
-mod node_twins;
 #[cfg(test)]
 mod nodes;
 #[cfg(test)]
@@ -20,7 +16,5 @@ mod tests;
 mod threads;
 #[cfg(test)]
 mod tinted;
-#[cfg(test)]
-mod twins;
 #[cfg(test)]
 mod worlds;

@@ -5,8 +5,6 @@
 #[cfg(test)]
 mod calls;
 #[cfg(test)]
-mod cores;
-#[cfg(test)]
 mod edits;
 #[cfg(test)]
 mod endings;
@@ -14,8 +12,6 @@ mod endings;
 mod rows;
 #[cfg(test)]
 mod threads;
-#[cfg(test)]
-mod twins;
 #[cfg(test)]
 mod uniform;
 #[cfg(test)]

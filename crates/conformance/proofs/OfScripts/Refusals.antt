@@ -1,7 +1,6 @@
 -- What a run made and met goes on to hold, and what it comes to.
-use Rattle.std.proofs.Common.{◌≡◌, ℕ, ◌^◌, ◌≤◌, List, [], ◌∷◌, ◌++◌, length, refl, ap, sym, subst, ◌∙◌, arith, length-append, append-nil}
+use Rattle.std.proofs.Common.{◌≡◌, ℕ, ◌^◌, ◌≤◌, List, [], ◌∷◌, ◌++◌, length, refl, ap, sym, subst, ◌∙◌, arith, length-append}
 use Rattle.std.specs.Prelude.{All}
-use Rattle.std.specs.List.{AllZip}
 use Rattle.std.proofs.lemmas.List.Elements.{All-append, All-weaker, All-contains, Contains-append_left, Contains-append_right}
 use Rattle.vox_read.specs.Contents.{Content}
 use Rattle.history_model.specs.declared.acts.Act.{Act}
@@ -15,14 +14,14 @@ use Rattle.node_words.specs.Held.{Wanted}
 use Rattle.node_words.specs.Plans.{Layout}
 use Rattle.node_words.specs.Enough.{HasEnough}
 use Rattle.conformance.specs.possible.Needed.{Span, made_of}
-use Rattle.conformance.specs.scripts.Keeping.{IsPartOfWorld, IsWanted, IsMadeFor, IsMadeInRun, MadeAndMet, WasMet, KeepsMade, HaveEnough, MakesFor, LineMakes, last_moment}
+use Rattle.conformance.specs.scripts.Keeping.{IsPartOfWorld, IsWanted, IsMadeFor, IsMadeInRun, MadeAndMet, WasMet, KeepsMade, HaveEnough, MakesFor, LineMakes}
 use Rattle.conformance.proofs.OfScripts.PossibleLaws.{met_needed, enough_possible}
 use Rattle.script.specs.declared.commands.Command.{Command}
 use Rattle.script.specs.declared.commands.Command.TheVariants.{Edit, Forget, Ask, Save, Same, Head}
 use Rattle.script.specs.declared.commands.ScriptLine.{ScriptLine}
 use Rattle.transcript.specs.declared.answers.LineAnswer.{LineAnswer}
 use Rattle.conformance.specs.Answers.{GoesOn}
-use Rattle.conformance.specs.Refusing.{span_by, spans_in, spans_of, Refusal, refused_by, refused_in, refused_of, WasPossible, FullOnlyWherePossible}
+use Rattle.conformance.specs.Refusing.{span_by, spans_of, Refusal, refused_by, refused_of, WasPossible, FullOnlyWherePossible}
 
 module _ (p : Layout) (models : List Content) (old new : Log) (g : GoesOn old new) where
   stored_stay : (side v : ℕ) → v ≤ length old.records
@@ -132,32 +131,6 @@ makes_more p models old new spans refused made now first l a g within keeps line
 pub append_more : {X : Type 0} (xs ys zs : List X) → (xs ++ ys) ++ zs ≡ xs ++ (ys ++ zs)
 append_more [] ys zs = refl
 append_more (x ∷ xs) ys zs = ap (λ ws. x ∷ ws) (append_more xs ys zs)
-
-pub spans_push : (R : ScriptLine → LineAnswer → Type 0) (first : ℕ) (script : List ScriptLine)
-    (transcript : List LineAnswer) (l : ScriptLine) (a : LineAnswer) → AllZip R script transcript
-    → spans_in first (script ++ l ∷ [])
-    (transcript ++ a ∷ []) ≡ spans_in first script transcript ++ span_by
-    (last_moment first transcript) l.command a.at
-spans_push R first [] [] l a all = append-nil _
-spans_push R first [] (b ∷ transcript) l a all = absurd all
-spans_push R first (k ∷ script) [] l a all = absurd all
-spans_push R first (k ∷ script) (b ∷ transcript) l a all =
-    ap (λ (ss : List Span). span_by first k.command b.at ++ ss)
-    (spans_push R b.at script transcript l a all.1)
-    ∙ sym (append_more (span_by first k.command b.at) (spans_in b.at script transcript) _)
-
-pub refused_push : (R : ScriptLine → LineAnswer → Type 0) (script : List ScriptLine)
-    (transcript : List LineAnswer) (l : ScriptLine) (a : LineAnswer) → AllZip R script transcript
-    → refused_in (script ++ l ∷ [])
-    (transcript ++ a ∷ []) ≡ refused_in script transcript ++ refused_by l.command a.at a.answer
-refused_push R [] [] l a all = append-nil _
-refused_push R [] (b ∷ transcript) l a all = absurd all
-refused_push R (k ∷ script) [] l a all = absurd all
-refused_push R (k ∷ script) (b ∷ transcript) l a all =
-    ap (λ (ss : List Refusal). refused_by k.command b.at b.answer ++ ss)
-    (refused_push R script transcript l a all.1)
-    ∙ sym (append_more (refused_by k.command b.at b.answer)
-    (refused_in script transcript) _)
 
 -- what the run comes to, where each bucket that was full had enough entries
 pub full_only_where_possible : (p : Layout) (models : List Content) (log : Log)

@@ -4,7 +4,7 @@ use Rattle.std.proofs.lemmas.List.{length_push, take_more, take_all}
 use Rattle.script.specs.declared.commands.ScriptLine.{ScriptLine}
 use Rattle.transcript.specs.declared.answers.LineAnswer.{LineAnswer}
 use Rattle.conformance.specs.declared.saves.SavedBox.{SavedBox}
-use Rattle.conformance.specs.Saves.{saved_by, saved_in, saved_of}
+use Rattle.conformance.specs.Saves.{saved_by, saved_in}
 
 -- one more line
 saved_push : (lines : List ScriptLine) (answers : List LineAnswer) (l : ScriptLine)
@@ -18,20 +18,6 @@ saved_push (k ∷ lines) (b ∷ answers) l a many =
     ap (λ (ss : List SavedBox). saved_by k.command b.at b.answer ++ ss)
     (saved_push lines answers l a (omega (arith, many)))
     ∙ sym (append_assoc (saved_by k.command b.at b.answer) (saved_in lines answers) _)
-
--- one more script
-saved_next : (scripts : List (List ScriptLine)) (transcripts : List (List LineAnswer))
-    (script : List ScriptLine) (transcript : List LineAnswer)
-    → length transcripts ≡ length scripts
-    → saved_of (scripts ++ script ∷ []) (transcripts ++ transcript ∷ [])
-    ≡ saved_of scripts transcripts ++ saved_in script transcript
-saved_next [] [] script transcript many = append-nil _
-saved_next [] (t ∷ transcripts) script transcript many = absurd (omega (arith, many))
-saved_next (s ∷ scripts) [] script transcript many = absurd (omega (arith, many))
-saved_next (s ∷ scripts) (t ∷ transcripts) script transcript many =
-    ap (λ (ss : List SavedBox). saved_in s t ++ ss)
-    (saved_next scripts transcripts script transcript (omega (arith, many)))
-    ∙ sym (append_assoc (saved_in s t) (saved_of scripts transcripts) _)
 
 -- what a desk saved before, and what the lines saved that were answered since
 pub record SavedByLines (old now : List SavedBox) (lines : List ScriptLine)
@@ -63,48 +49,6 @@ line_saved old mid now lines i l answers more a lt so_far is saved pushed =
     subst (λ (ls : List ScriptLine). SavedByLines old now ls more) (sym next)
     (subst (λ (bs : List LineAnswer). SavedByLines old now (take i lines ++ l ∷ []) bs)
     (sym pushed) both)
-
--- the same of whole scripts
-pub record SavedByScripts (old now : List SavedBox) (scripts : List (List ScriptLine))
-    (transcripts : List (List LineAnswer)) : Type 0 where
-  pub as_many : length transcripts ≡ length scripts
-  pub are : now ≡ old ++ saved_of scripts transcripts
-
-pub no_script_saved : (old : List SavedBox) → SavedByScripts old old [] []
-no_script_saved old = record { as_many = refl; are = sym (append-nil old) }
-
-pub script_saved : (old mid now : List SavedBox) (scripts : List (List ScriptLine)) (i : ℕ)
-    (d script : List ScriptLine) (transcripts more : List (List LineAnswer))
-    (answers : List LineAnswer) → i < length scripts
-    → SavedByScripts old mid (take i scripts) transcripts → script ≡ get_or scripts i d
-    → now ≡ mid ++ saved_in script answers → more ≡ transcripts ++ answers ∷ []
-    → SavedByScripts old now (take (i + 1) scripts) more
-script_saved old mid now scripts i d script transcripts more answers lt so_far is saved pushed =
-    let next : take (i + 1) scripts ≡ take i scripts ++ script ∷ [] =
-    take_more scripts i d lt
-    ∙ ap (λ (s : List ScriptLine). take i scripts ++ s ∷ []) (sym is) in
-    let both : SavedByScripts old now (take i scripts ++ script ∷ []) (transcripts ++ answers ∷ [])
-    = record {
-      as_many =
-          length_push transcripts answers ∙ ap (λ (n : ℕ). n + 1) so_far.as_many
-          ∙ sym (length_push (take i scripts) script);
-      are =
-          saved ∙ ap (λ (ss : List SavedBox). ss ++ saved_in script answers) so_far.are
-          ∙ append_assoc old (saved_of (take i scripts) transcripts) _
-          ∙ ap (λ (ss : List SavedBox). old ++ ss)
-          (sym (saved_next (take i scripts) transcripts script answers so_far.as_many));
-    } in
-    subst (λ (ss : List (List ScriptLine)). SavedByScripts old now ss more) (sym next)
-    (subst (λ (ts : List (List LineAnswer)).
-    SavedByScripts old now (take i scripts ++ script ∷ []) ts) (sym pushed) both)
-
-pub all_saved : (old now : List SavedBox) (scripts : List (List ScriptLine)) (i : ℕ)
-    (transcripts : List (List LineAnswer)) → length scripts ≤ i
-    → SavedByScripts old now (take i scripts) transcripts
-    → now ≡ old ++ saved_of scripts transcripts
-all_saved old now scripts i transcripts past so_far =
-    so_far.are
-    ∙ ap (λ (ss : List (List ScriptLine)). old ++ saved_of ss transcripts) (take_all i scripts past)
 
 pub all_lines_saved : (old now : List SavedBox) (lines : List ScriptLine) (i : ℕ)
     (answers : List LineAnswer) → length lines ≤ i → SavedByLines old now (take i lines) answers

@@ -1,5 +1,5 @@
 -- What a run of scripts one after another keeps.
-use Rattle.std.specs.Prelude.{◌≡◌, ℕ, List, [], ◌++◌, length}
+use Rattle.std.specs.Prelude.{◌≡◌, ℕ, List, ◌++◌, length}
 use Rattle.vox_read.specs.Contents.{Content}
 use Rattle.history_model.specs.Logs.{Log}
 use Rattle.node_words.specs.Plans.{Layout}
@@ -34,17 +34,3 @@ GoesOnWith p models session l old new made now a =
     → IsRunning p models scripts transcripts script transcript old made
     → length scripts ≡ session → IsAfter script l
     → TakesLine p models session (last_moment 0 transcript) l old new made now a
-
--- whatever has run so far, these lines of the session's script ran after it
-abbrev pub RanSession : Layout → List Content → ℕ → List ScriptLine → List LineAnswer → Log → Log
-    → MadeAndMet → MadeAndMet → Type 0
-RanSession p models session lines answers old new made now =
-    (scripts : List (List ScriptLine)) (transcripts : List (List LineAnswer))
-    → length scripts ≡ session
-    → IsRunning p models scripts transcripts [] [] old made
-    → IsRunning p models scripts transcripts lines answers new now
-
--- nothing was done yet
-pub record IsAtStart (side : ℕ) (log : Log) (noted : MadeAndMet) : Type 0 where
-  pub empty : log ≡ record { side = side; coloured = log.coloured; records = []; marks = [] }
-  pub nothing : noted ≡ record { made = []; met = [] }

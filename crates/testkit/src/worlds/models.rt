@@ -4,7 +4,6 @@ ghost use Rattle.vox_read.specs.Contents.{AreModels};
 use edit_stamp::Stencil;
 use std::alloc::{AllocError, Global};
 use vox_read::{Models, read_models};
-use vw_cell::Cell;
 
 /// A model as a file tells it: its size, and voxels of a place and a colour each.
 #[derive(Drop)]
@@ -14,27 +13,6 @@ pub struct Drawing {
 }
 
 impl Drawing {
-    /// The size on each axis.
-    pub fn cells(&self) -> Cell {
-        Cell {
-            x: u16::from(self.size[0]),
-            y: u16::from(self.size[1]),
-            z: u16::from(self.size[2]),
-        }
-    }
-
-    /// Whether the model sets the place: the last voxel there has a colour other than 0.
-    pub fn has(&self, place: Cell) -> bool {
-        let mut is_set = false;
-        for voxel in &self.voxels {
-            let [x, y, z, colour] = *voxel;
-            if u16::from(x) == place.x && u16::from(y) == place.y && u16::from(z) == place.z {
-                is_set = colour != 0;
-            }
-        }
-        is_set
-    }
-
     /// The stencil of the model, read from its file. `None` where a voxel stands outside, or memory
     /// is short.
     pub fn stencil(&self, alloc: Global) -> Option<Stencil> {

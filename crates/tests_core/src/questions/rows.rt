@@ -1,12 +1,11 @@
-use crate::questions::asks::empty_world;
-use crate::questions::plain::beside;
 use edit_stamp::Stencil;
 use history_model::{Act, Question, Way};
+use node_words::Plan;
 use std::alloc::Global;
 use std::test::Fail;
 use testkit::{Drawing, Found, StoredWorld};
 use vox_read::Voxel;
-use vw_cell::{Boxed, Cell};
+use vw_cell::{Boxed, Cell, Side};
 
 const ORIGIN: Cell = Cell { x: 0, y: 0, z: 0 };
 
@@ -63,6 +62,13 @@ const LAST: Boxed = Boxed {
 };
 
 const SOME: &[Boxed] = &[FIRST, SECOND, FOURTH];
+
+// An empty world in a store with so many buckets a level, each for as many nodes.
+fn empty_world(alloc: Global, side: u32, room: u16) -> Result<StoredWorld, Fail> {
+    let side = Side::new(side).ok_or("a side")?;
+    let plan = Plan::even(side, room, room).ok_or("a plan")?;
+    Ok(StoredWorld::empty(alloc, &plan)?)
+}
 
 // A stencil where none is stamped.
 fn any_stencil(alloc: Global) -> Option<Stencil> {
@@ -183,6 +189,44 @@ const MIDDLES: &[Cell] = &[
 
 fn single(at: Cell) -> Boxed {
     Boxed { at, size: ONE }
+}
+
+// The cell beside this one in one of six directions. A place before the first is none of a
+// world's.
+fn beside(at: Cell, direction: u8) -> Cell {
+    let Cell { x, y, z } = at;
+    match direction {
+        0 => Cell {
+            x: x.wrapping_sub(1),
+            y,
+            z,
+        },
+        1 => Cell {
+            x: x.wrapping_add(1),
+            y,
+            z,
+        },
+        2 => Cell {
+            x,
+            y: y.wrapping_sub(1),
+            z,
+        },
+        3 => Cell {
+            x,
+            y: y.wrapping_add(1),
+            z,
+        },
+        4 => Cell {
+            x,
+            y,
+            z: z.wrapping_sub(1),
+        },
+        _ => Cell {
+            x,
+            y,
+            z: z.wrapping_add(1),
+        },
+    }
 }
 
 // Whether the cell has five faces beside its neighbour in this direction.

@@ -1,4 +1,4 @@
-use crate::stores::{Counted, changes_of, cuts_of, fault_in, full_world_file, look_at};
+use crate::stores::{Counted, fault_in, full_world_file, look_at};
 use std::test::Fail;
 
 /// A file of a world of 8 cells: version 0 is empty, and all cells of version 1 are set.
@@ -77,19 +77,6 @@ fn an_empty_leaf_and_a_byte_too_many(rt: HostRuntime) -> Result<(), Fail> {
         }
     }
     assert_eq!(rt; fault_in(rt.alloc(), &bytes), Some(24));
-    Ok(())
-}
-
-// The numbers are those of `bench/dag_files/slow_reader.py --tables`, a reader written from the
-// rules alone.
-#[test]
-fn each_byte_changed_and_each_cut_are_refused_as_a_slow_reader_does(
-    rt: HostRuntime,
-) -> Result<(), Fail> {
-    assert_eq!(rt; changes_of(rt.alloc(), FULL)?, 11730537010734712860);
-    assert_eq!(rt; cuts_of(rt.alloc(), FULL), 7359055164545801984);
-    assert_eq!(rt; changes_of(rt.alloc(), SIXTEEN)?, 11650804794443744628);
-    assert_eq!(rt; cuts_of(rt.alloc(), SIXTEEN), 13475189156934781440);
     Ok(())
 }
 

@@ -1,9 +1,7 @@
-ghost use Rattle.std.specs.Prelude.{◌≡◌, ◌≤◌, ◌<◌, None, [], IfOk};
-ghost use Rattle.one_store.specs.Spots.{levels};
-ghost use Rattle.one_store.specs.Known.{Known, stored_root};
+ghost use Rattle.std.specs.Prelude.{◌≡◌, ◌≤◌, ◌<◌, None};
+ghost use Rattle.one_store.specs.Known.{stored_root};
 
 use crate::stores::calls::{joined, kept, returned, rooted};
-use crate::stores::slots::Slots;
 use node_words::{Full, Name, NodeStore, Plan, Steps};
 use one_store::OneStore;
 use std::alloc::Global;
@@ -151,49 +149,5 @@ fn roots_stay_in_their_places(rt: HostRuntime) -> Result<(), Fail> {
         let taken = store.take_root(3).map(|share| share.spend());
         assert!(rt; taken.is_none());
     }
-    Ok(())
-}
-
-// How many random calls are answered otherwise than by a list of slots.
-fn wrong_random_calls<L: Ledger>(store: &mut OneStore, blank: Blank) -> u32
-    requires name { blank.name ≡ L.name }
-    requires parts { blank.parts ≡ L.parts }
-    requires some { 0 < L.parts }
-    requires side { 3 ≤ store.old.words.plan.side }
-{
-    let mut steps: Steps<L> = Steps::start(blank);
-    let mut slots = Slots::new();
-    let mut seed: u64 = 7;
-    let mut wrong: u32 = 0;
-    for _ in 0..1500u32 {
-        seed = seed
-            .wrapping_mul(6364136223846793005)
-            .wrapping_add(1442695040888963407);
-        let bits = (seed >> 40) % 40 + 1;
-        let call = if (seed >> 50) % 16 == 0 {
-            Call::Keep
-        } else {
-            Call::Return
-        };
-        let answer = answers(store, call, bits, &mut steps);
-        let (bucket, slot) = slots.take(bits);
-        if slot.is_some() && matches!(call, Call::Return) {
-            slots.give(bits);
-        }
-        let same = match answer {
-            Ok(n) => n.bucket == bucket && slot == Some(n.slot) && n.level == 0,
-            Err(full) => full.bucket == bucket && slot.is_none() && full.level == 0,
-        };
-        wrong = wrong.saturating_add(u32::from(!same));
-    }
-    wrong
-}
-
-#[test]
-fn random_calls_are_answered_by_slots(rt: HostRuntime) -> Result<(), Fail> {
-    let side = Side::new(8).ok_or("a side")?;
-    let plan = Plan::even(side, 4, 3).ok_or("a plan")?;
-    let mut store = OneStore::begin(rt.alloc(), &plan)?;
-    assert_eq!(rt; wrong_random_calls::<Brand>(&mut store, Blank::new(1)), 0);
     Ok(())
 }

@@ -2,15 +2,13 @@ ghost use Rattle.std.specs.Prelude.{IfSome};
 ghost use Rattle.vox_read.specs.Contents.{AreModels};
 
 use crate::colours::asking::{Asked, Told};
-use crate::colours::grids::{TintGrid, draw_act};
 use crate::colours::worlds::TintWorld;
 use colour::TintStencil;
 use history_model::TintAct;
 use std::alloc::Global;
 use std::test::Fail;
-use testkit::Draws;
 use vox_read::{Models, Voxel, read_models};
-use vw_cell::{Ball, Boxed, Cell, Memory};
+use vw_cell::{Ball, Boxed, Cell};
 
 const ORIGIN: Cell = Cell { x: 0, y: 0, z: 0 };
 
@@ -40,18 +38,8 @@ const WIDE: Boxed = Boxed {
     },
 };
 
-/// A model of 3 by 2 by 2 places, one of which has two voxels, and one a last voxel of colour 0.
-const DRAWN: [[u8; 4]; 6] = [
-    [0, 0, 0, 5],
-    [1, 0, 0, 2],
-    [1, 0, 0, 255],
-    [2, 1, 1, 8],
-    [2, 1, 1, 0],
-    [0, 1, 0, 129],
-];
-
-const SIZE: Cell = Cell { x: 3, y: 2, z: 2 };
-
+/// A model of 3 by 2 by 2 places. The one at 1 0 0 has voxels of colours 2 and 255, the one at 2 1 1
+/// those of colours 8 and 0; the one at 0 0 0 has colour 5, the one at 0 1 0 colour 129.
 const FILE: &[u8] =
     b"VOX \x96\0\0\0MAIN\0\0\0\0\x40\0\0\0SIZE\x0c\0\0\0\0\0\0\0\x03\0\0\0\x02\0\0\0\
 \x02\0\0\0XYZI\x1c\0\0\0\0\0\0\0\x06\0\0\0\0\0\0\x05\x01\0\0\x02\x01\0\0\xff\x02\x01\x01\x08\x02\
@@ -306,197 +294,9 @@ fn voxels_have_their_tints(rt: HostRuntime) -> Result<(), Fail> {
     Ok(())
 }
 
-// How many cells have another tint than the plain ones.
-fn differing(world: &mut TintWorld, plain: &TintGrid) -> u32 {
-    let mut wrong: u32 = 0;
-    for z in 0..8u16 {
-        for y in 0..8u16 {
-            for x in 0..8u16 {
-                let c = Cell { x, y, z };
-                if world.ask(&Asked::Tint(c)) != Some(Told::Tint(plain.tint(c))) {
-                    wrong = wrong.saturating_add(1);
-                }
-            }
-        }
-    }
-    wrong
-}
-
 fn done(world: &mut TintWorld, act: &TintAct, stencil: &TintStencil) -> bool {
     match act {
         TintAct::Stamp(_, _) => world.edit(act, Some(stencil)).is_ok(),
         _ => world.edit(act, None).is_ok(),
     }
-}
-
-// Whether the voxel has this place and colour.
-fn is_voxel(voxel: &Voxel, place: Cell, colour: u8) -> bool {
-    u16::from(voxel.x) == place.x
-        && u16::from(voxel.y) == place.y
-        && u16::from(voxel.z) == place.z
-        && voxel.colour == colour
-}
-
-// How many voxels of a list of the box are other than the plain cells' by rising z, then y, then x.
-fn misread(plain: &TintGrid, b: Boxed, voxels: &[Voxel]) -> u32 {
-    let mut wrong: u32 = 0;
-    let mut next: usize = 0;
-    for z in 0..b.size.z {
-        for y in 0..b.size.y {
-            for x in 0..b.size.x {
-                let colour = plain.tint(Cell {
-                    x: b.at.x.saturating_add(x),
-                    y: b.at.y.saturating_add(y),
-                    z: b.at.z.saturating_add(z),
-                });
-                if colour == 0 {
-                    continue;
-                }
-                if next >= voxels.len() || !is_voxel(&voxels[next], Cell { x, y, z }, colour) {
-                    wrong = wrong.saturating_add(1);
-                }
-                next = next.saturating_add(1);
-            }
-        }
-    }
-    if next == voxels.len() {
-        wrong
-    } else {
-        wrong.saturating_add(1)
-    }
-}
-
-// How many voxels are wrong in the list of a box.
-fn mislisted(alloc: Global, world: &mut TintWorld, plain: &TintGrid, b: Boxed) -> u32 {
-    let mut voxels: Vec<Voxel> = Vec::new(alloc);
-    if world.voxels(b, &mut voxels) {
-        misread(plain, b, voxels.as_slice())
-    } else {
-        1
-    }
-}
-
-/// Random acts on a world of this side in a store of so many buckets, and what is looked at after
-/// each of them.
-struct Trial {
-    side: u16,
-    buckets: u16,
-    acts: u32,
-    look: Look,
-}
-
-/// Each cell of a world of side 8, or the list of a box of the world.
-enum Look {
-    Cells,
-    List,
-}
-
-// How much is wrong of what is looked at.
-fn wrong_in(
-    alloc: Global,
-    trial: &Trial,
-    draws: &mut Draws,
-    world: &mut TintWorld,
-    plain: &TintGrid,
-) -> u32 {
-    match trial.look {
-        Look::Cells => differing(world, plain),
-        Look::List => mislisted(alloc, world, plain, draws.boxed(trial.side)),
-    }
-}
-
-// Does the act to the world, and then to plain cells; whether it was refused.
-fn is_refused(
-    alloc: Global,
-    world: &mut TintWorld,
-    plain: &mut TintGrid,
-    act: &TintAct,
-    stencil: &TintStencil,
-) -> Result<bool, Memory> {
-    if !done(world, act, stencil) {
-        return Ok(true);
-    }
-    *plain = plain.after(alloc, act, &DRAWN)?;
-    Ok(false)
-}
-
-// Does random acts to a world and to plain cells. Counts what is wrong after each, and what was
-// refused.
-fn score(
-    alloc: Global,
-    trial: &Trial,
-    draws: &mut Draws,
-    world: &mut TintWorld,
-    plain: &mut TintGrid,
-    stencil: &TintStencil,
-) -> Result<(u32, u32), Memory> {
-    let mut wrong: u32 = 0;
-    let mut refused: u32 = 0;
-    for _ in 0..trial.acts {
-        let act = draw_act(draws, trial.side, SIZE);
-        let is_refused = is_refused(alloc, world, plain, &act, stencil)?;
-        refused = refused.saturating_add(u32::from(is_refused));
-        wrong = wrong.saturating_add(wrong_in(alloc, trial, draws, world, plain));
-    }
-    Ok((wrong, refused))
-}
-
-// The same of plain cells without a tint.
-fn score_of(
-    alloc: Global,
-    trial: &Trial,
-    seed: u64,
-    world: &mut TintWorld,
-    stencil: &TintStencil,
-) -> Result<(u32, u32), Memory> {
-    let mut draws = Draws::new(seed);
-    let mut plain = TintGrid::empty(alloc, trial.side)?;
-    score(alloc, trial, &mut draws, world, &mut plain, stencil)
-}
-
-// The same of a new world.
-fn play_with(
-    alloc: Global,
-    trial: &Trial,
-    seed: u64,
-    stencil: &TintStencil,
-) -> Result<(u32, u32), Fail> {
-    let mut world = TintWorld::empty(alloc, u32::from(trial.side), trial.buckets, 64)?;
-    Ok(score_of(alloc, trial, seed, &mut world, stencil)?)
-}
-
-// The same with a stencil of the small model.
-fn play(alloc: Global, trial: &Trial, seed: u64) -> Result<(u32, u32), Fail> {
-    let stencil = small_stencil(alloc)?;
-    play_with(alloc, trial, seed, &stencil)
-}
-
-const SMALL: Trial = Trial {
-    side: 8,
-    buckets: 256,
-    acts: 24,
-    look: Look::Cells,
-};
-
-#[test]
-fn random_acts_give_each_cell_its_tint(rt: HostRuntime) -> Result<(), Fail> {
-    for seed in 1..4u64 {
-        assert_eq!(rt; play(rt.alloc(), &SMALL, seed)?, (0, 0));
-    }
-    Ok(())
-}
-
-const LARGE: Trial = Trial {
-    side: 32,
-    buckets: 512,
-    acts: 12,
-    look: Look::List,
-};
-
-#[test]
-fn lists_have_the_tint_of_each_cell(rt: HostRuntime) -> Result<(), Fail> {
-    for seed in 1..3u64 {
-        assert_eq!(rt; play(rt.alloc(), &LARGE, seed)?, (0, 0));
-    }
-    Ok(())
 }

@@ -1,8 +1,0 @@
-mod Having
-mod Tracing
-mod Numbers
-mod LeastBoxes
-mod RayLaws
-mod Lines
-mod Changing
-mod Falling

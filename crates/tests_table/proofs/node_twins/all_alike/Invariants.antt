@@ -1,4 +1,0 @@
-use Rattle.tests_table.proofs.node_twins.all_alike.Given as goal
-
-abbrev pub ghosts-two_alike : goal.ghosts-two_alike
-ghosts-two_alike g a = record { name = a.blank.name; parts = a.blank.parts }
