@@ -1,5 +1,5 @@
 #!/usr/bin/env python3
-"""The load of a number, written from the rules of its format alone: bench/load.py N
+"""The load of a number, written from the rules of its format alone: oracle/load.py N
 
 It writes to standard output the line of the world's side, the bytes of the VOX file, and the four scripts, one after another.
 
@@ -21,22 +21,22 @@ import sys
 
 
 class Numbers:
-    def __init__(self, n):
+    def __init__(self, n: int) -> None:
         self.state = n
 
-    def d(self, m):
+    def d(self, m: int) -> int:
         self.state = (self.state * 6364136223846793005 + 1442695040888963407) % 2**64
         return (self.state >> 33) % m
 
 
-def vox(numbers):
+def vox(numbers: Numbers) -> bytes:
     voxels = b"".join(bytes([numbers.d(32), numbers.d(32), numbers.d(32), 1 + numbers.d(255)]) for _ in range(4000))
     size = struct.pack("<4s5I", b"SIZE", 12, 0, 32, 32, 32)
     xyzi = struct.pack("<4s3I", b"XYZI", 4 + len(voxels), 0, len(voxels) // 4) + voxels
     return struct.pack("<4sI4s2I", b"VOX ", 150, b"MAIN", 0, len(size) + len(xyzi)) + size + xyzi
 
 
-def edit(numbers, i):
+def edit(numbers: Numbers, i: int) -> tuple[str, list[int]]:
     d = numbers.d
     kind = d(4)
     if kind < 2:
@@ -47,12 +47,12 @@ def edit(numbers, i):
     return "stamp", [0, 64 * i + d(32), d(224), d(224)]
 
 
-def script(numbers, i):
+def script(numbers: Numbers, i: int) -> bytes:
     lines = [edit(numbers, i) for _ in range(200)] + [("count", [64 * i, 0, 0, 64, 256, 256])]
     return "".join(" ".join([word, *map(str, rest)]) + "\n" for word, rest in lines).encode()
 
 
-def main():
+def main() -> None:
     numbers = Numbers(int(sys.argv[1]))
     sys.stdout.buffer.write(b"side 256\n" + vox(numbers))
     for i in range(4):
