@@ -1,16 +1,16 @@
-"""Audits of what runs by chance left, one to four scripts at the same time, and sometimes 64: yes of each, and of copies with one
-byte changed in the journal or a transcript what the slow audit here says. The first of these that is so has to come:
+"""Audits of what runs by chance left, one to four scripts at the same time, and sometimes 64: yes of each, and of
+copies with one byte changed in the journal or a transcript what the slow audit here says. The first of these that is so
+has to come:
 
 - 12 and the journal's first line that doesn't fit (texts.py);
-- 5: a script, its first line with a fault in the journal's world, and its kind: 1, a question for a colour, where it has none; 5, a
-  word too many, as a tint is there; 3, a place outside the world;
+- 5: a script, its first line with a fault in the journal's world, and its kind: 1, a question for a colour, where it
+  has none; 5, a word too many, as a tint is there; 3, a place outside the world;
 - 15, a script and the first line of its transcript that doesn't fit;
 - `yes` where the history is legal and agrees with the scripts and transcripts (judge.py), else `no`.
 """
 
 from random import Random
 
-import chance
 import judge
 import runs
 from chance import Setting

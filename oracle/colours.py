@@ -1,6 +1,6 @@
-"""Runs with colours, byte by byte. Then `audit` must say yes, and no where the number of one answer is one higher; and the file that
-`dag` makes of the journal must count, in each version that it keeps, as many cells of the world as have a colour, and tell a cell's
-colour bit by bit.
+"""Runs with colours, byte by byte. Then `audit` must say yes, and no where the number of one answer is one higher; and
+the file that `dag` makes of the journal must count, in each version that it keeps, as many cells of the world as have a
+colour, and tell a cell's colour bit by bit.
 """
 
 import re

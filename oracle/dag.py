@@ -1,9 +1,9 @@
-"""Files of many versions: what `dag` makes of journals by chance, some with one byte changed, and what `look` says of right files and
-of spoiled ones, by a slow writer and a slow reader, from the rules of docs/DAG_FILES.md alone.
+"""Files of many versions: what `dag` makes of journals by chance, some with one byte changed, and what `look` says of
+right files and of spoiled ones, by a slow writer and a slow reader, from the rules of docs/DAG_FILES.md alone.
 
-A journal that is none is refused at its first line that doesn't fit, with status 12, and one with a record that isn't legal at that
-record's line, n + 2. A file that breaks a rule is refused with status 14 at the place of the first one; a version that it hasn't,
-and a place outside its worlds, with status 10.
+A journal that is none is refused at its first line that doesn't fit, with status 12, and one with a record that isn't
+legal at that record's line, n + 2. A file that breaks a rule is refused with status 14 at the place of the first one; a
+version that it hasn't, and a place outside its worlds, with status 10.
 """
 
 import struct

@@ -1,9 +1,9 @@
 #!/usr/bin/env python3
 """What `voxdag demo N` writes and prints, from the rules of the load and of its run alone: oracle/demo.py N
 
-It writes demo.0.out to demo.3.out and demo.journal into the current folder, and prints the lines of standard output. The
-world is a row of 256 * 256 * 256 bytes. The four scripts run one after another, and every edit is accepted. The program runs
-them at the same time, so the moments and the order of the records may be others there.
+It writes demo.0.out to demo.3.out and demo.journal into the current folder, and prints the lines of standard output.
+The world is a row of 256 * 256 * 256 bytes. The four scripts run one after another, and every edit is accepted. The
+program runs them at the same time, so the moments and the order of the records may be others there.
 """
 import re
 import sys

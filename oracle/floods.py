@@ -1,7 +1,7 @@
 """Floods of models by chance: the unset cells that steps from cell to cell lead to, the file of them and their number.
 
-From an unset cell a step leads to one of the six beside it that is unset too and lies in the model. From a set cell none is
-reached. Status 10 and `voxdag: no place` come where the file has no such model or the model no such cell.
+From an unset cell a step leads to one of the six beside it that is unset too and lies in the model. From a set cell
+none is reached. Status 10 and `voxdag: no place` come where the file has no such model or the model no such cell.
 """
 
 from random import Random

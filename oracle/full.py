@@ -1,6 +1,7 @@
-"""Runs over stores of few places, byte by byte: an edit is refused exactly where a bucket can't hold all that is alive when it is
-done, which is what the edit makes and what versions contain that are held or that a save waits for (plain.py). What was refused
-left nothing behind, or a later edit would be refused that has room, and the line would count other nodes.
+"""Runs over stores of few places, byte by byte: an edit is refused exactly where a bucket can't hold all that is alive
+when it is done, which is what the edit makes and what versions contain that are held or that a save waits for
+(plain.py). What was refused left nothing behind, or a later edit would be refused that has room, and the line would
+count other nodes.
 """
 
 from random import Random

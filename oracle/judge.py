@@ -1,14 +1,15 @@
 """Whether a history agrees with scripts and their transcripts, from these rules alone.
 
-- Each command has one line, in order. Moments never fall; an `ok` is later than all before it, and what made a `try` stale is no
-  earlier than all before it.
-- `ok` at moment n is record n, of this session, line and act; `forgot v` is the mark of v at this moment, session and line. The
-  records and marks are just those of these lines, each once, and, where the last `keep` versions alone are held, the marks of the
-  others that no line names, each by the session and line of the record that pushed it out.
-- An answer of a version comes where the version is no later than the moment, with no mark before the moment or by an earlier line
-  of its own session; it is that of the plain cells. `forgotten v` comes where v, named or gone back to, has a mark at the moment
-  or before it that isn't by this line or a later one of this session.
-- `stale b` comes of a `try` alone, b below the moment; `full l b` of an edit alone, for a level and bucket of the store.
+- Each command has one line, in order. Moments never fall; an `ok` is later than all before it, and what made a `try`
+  stale is no earlier than all before it.
+- `ok` at moment n is record n, of this session, line and act; `forgot v` is the mark of v at this moment, session and
+  line. The records and marks are just those of these lines, each once, and, where the last `keep` versions alone are
+  held, the marks of the others that no line names, each by the session and line of the record that pushed it out.
+- An answer of a version comes where the version is no later than the moment, with no mark before the moment or by an
+  earlier line of its own session; it is that of the plain cells. `forgotten v` comes where v, named or gone back to,
+  has a mark at the moment or before it that isn't by this line or a later one of this session.
+- `stale b` comes of a `try` alone, b below the moment; `full l b` of an edit alone, for a level and bucket of the
+  store.
 """
 
 from model import EDITS, History, Mark, Record, in_box, told

@@ -1,5 +1,5 @@
-"""Runs that hold their last versions alone, with forgettings by hand among them, byte by byte; then `audit` must say yes with the
-run's number of versions, and with another one what the slow audit says.
+"""Runs that hold their last versions alone, with forgettings by hand among them, byte by byte; then `audit` must say
+yes with the run's number of versions, and with another one what the slow audit says.
 """
 
 from random import Random

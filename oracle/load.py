@@ -1,13 +1,15 @@
 #!/usr/bin/env python3
 """The load of a number, written from the rules of its format alone: oracle/load.py N
 
-It writes to standard output the line of the world's side, the bytes of the VOX file, and the four scripts, one after another.
+It writes to standard output the line of the world's side, the bytes of the VOX file, and the four scripts, one after
+another.
 
-The numbers. The state begins as N. A draw makes the state g into g * 6364136223846793005 + 1442695040888963407 modulo 2^64,
-and gives the new state without its 33 lowest bits. d(m) is one draw modulo m. Draws are made in the order in which they
-stand here.
+The numbers. The state begins as N. A draw makes the state g into g * 6364136223846793005 + 1442695040888963407 modulo
+2^64, and gives the new state without its 33 lowest bits. d(m) is one draw modulo m. Draws are made in the order in
+which they stand here.
 
-The VOX file is of version 150 and has one model of size 32 32 32 with 4,000 voxels, each d(32), d(32), d(32), 1 + d(255).
+The VOX file is of version 150 and has one model of size 32 32 32 with 4,000 voxels, each d(32), d(32), d(32), 1 +
+d(255).
 
 Then four scripts, i from 0 to 3. Each has 200 lines of edits, and each of these draws t = d(4):
     0   fill X Y Z A B C    X = 64 i + d(48), Y = d(240), Z = d(240), and A, B, C are 1 + d(16) each

@@ -1,19 +1,21 @@
 """A world as the list of its records, each cell asked back through them. From these rules alone:
 
-- Version 0 has no set cell, and record n makes version n. A cell has a tint, 0 where it isn't set. A fill and a ball give their
-  cells a tint, an erase and a carve give 0; a copy gives the cells of its target what stood at their place in the box; a stamp
-  gives the tints of its model where these aren't 0; other cells stay. An undo and a redo have the cells of the version that they
-  go to. A cell is in a ball where its squared distance from the centre is at most the squared radius. Without colours each tint
-  is 1.
-- The world stands at a version. An edit puts that version on the past, ends the future, and the world stands at the new version;
-  an undo takes a version from the past, puts the one at which the world stood on the future, and goes there; a redo the other way.
-- A version with a mark is forgotten from the mark's moment on. With the last `keep` versions held alone, record n marks version
-  n - keep, by its own session and line, unless it has a mark.
-- A store has the cells of a world without colours. With colours its side is four times the world's side N: a set cell is set at
-  its place, and where bit b of its tint is 1 at that place moved by (2N + N (b mod 2), N (b / 2 mod 2), N (b / 4)).
-- The nodes of a store are the different contents of its aligned blocks of side 4, 8, 16 and so on that have a set cell, of all
-  versions that it holds. Each content has a bucket on its level by buckets.py, the bits of a leaf being x + 4y + 16z and the
-  octants of a node x + 2y + 4z.
+- Version 0 has no set cell, and record n makes version n. A cell has a tint, 0 where it isn't set. A fill and a ball
+  give their cells a tint, an erase and a carve give 0; a copy gives the cells of its target what stood at their place
+  in the box; a stamp gives the tints of its model where these aren't 0; other cells stay. An undo and a redo have the
+  cells of the version that they go to. A cell is in a ball where its squared distance from the centre is at most the
+  squared radius. Without colours each tint is 1.
+- The world stands at a version. An edit puts that version on the past, ends the future, and the world stands at the new
+  version; an undo takes a version from the past, puts the one at which the world stood on the future, and goes there; a
+  redo the other way.
+- A version with a mark is forgotten from the mark's moment on. With the last `keep` versions held alone, record n marks
+  version n - keep, by its own session and line, unless it has a mark.
+- A store has the cells of a world without colours. With colours its side is four times the world's side N: a set cell
+  is set at its place, and where bit b of its tint is 1 at that place moved by
+  (2N + N (b mod 2), N (b / 2 mod 2), N (b / 4)).
+- The nodes of a store are the different contents of its aligned blocks of side 4, 8, 16 and so on that have a set cell,
+  of all versions that it holds. Each content has a bucket on its level by buckets.py, the bits of a leaf being x + 4y +
+  16z and the octants of a node x + 2y + 4z.
 """
 
 from collections import Counter

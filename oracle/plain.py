@@ -1,13 +1,13 @@
 """The answers of one script that runs alone, over the world of model.py.
 
-A command is answered at the moment that is the number of records, and an accepted change becomes the next one. The first refusal
-that is so decides: of an edit, that a bucket has no room; of an undo or redo, that there is nowhere to go, or that the version
-there is forgotten; of `forget`, no version, `is head`, forgotten; of a question and of `same`, for its versions in turn, no
-version, forgotten.
+A command is answered at the moment that is the number of records, and an accepted change becomes the next one. The
+first refusal that is so decides: of an edit, that a bucket has no room; of an undo or redo, that there is nowhere to
+go, or that the version there is forgotten; of `forget`, no version, `is head`, forgotten; of a question and of `same`,
+for its versions in turn, no version, forgotten.
 
-A bucket has to have room for the different contents of all versions that are held or that a save waits for, and of what the edit
-makes. Copies with colours are made plane by plane, the set cells first and then the bits from the lowest, and each step needs
-room beside the step before.
+A bucket has to have room for the different contents of all versions that are held or that a save waits for, and of what
+the edit makes. Copies with colours are made plane by plane, the set cells first and then the bits from the lowest, and
+each step needs room beside the step before.
 """
 
 from model import Act, Blocks, Cell, History, Mark, Plan, Record, in_box, plus, told

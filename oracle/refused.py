@@ -1,14 +1,15 @@
 #!/usr/bin/env python3
 """Runs a program again and again, with another allocation refused each time: refused.py PROGRAM [ROW ..]
 
-Each row below is run with nothing refused, then with its first allocation refused, its second and so on, until one isn't
-reached any more, and then without threads. With an allocation refused it has to end with status 0, or with status 8 and the
-line `voxdag: memory` or none; the outputs that stand have to be the first ones of their list, each whole, and all of them
-with status 0. Without threads it has to end as with nothing refused. The first run that ends otherwise is shown, with status
-1. `oracle/run` draws some allocations and threads by chance instead. It needs a C compiler for refuse.c.
+Each row below is run with nothing refused, then with its first allocation refused, its second and so on, until one
+isn't reached any more, and then without threads. With an allocation refused it has to end with status 0, or with status
+8 and the line `voxdag: memory` or none; the outputs that stand have to be the first ones of their list, each whole, and
+all of them with status 0. Without threads it has to end as with nothing refused. The first run that ends otherwise is
+shown, with status 1. `oracle/run` draws some allocations and threads by chance instead. It needs a C compiler for
+refuse.c.
 
-Whole is what the row says in bytes here, or what demo.py gives. Of scripts that run at the same time the moments and the
-order of the records are left out, as these may differ from run to run.
+Whole is what the row says in bytes here, or what demo.py gives. Of scripts that run at the same time the moments and
+the order of the records are left out, as these may differ from run to run.
 """
 import collections
 import concurrent.futures

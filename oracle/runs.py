@@ -1,9 +1,9 @@
 """Runs of one script or several, byte by byte: transcripts, saved files, journal, report and line.
 
-One script's run is as plain.py answers. Of several the journal says the order: it is a legal history, each transcript is judged by
-it (judge.py), and saved files, report and line follow from it. A line `full l b` of several scripts comes only where the edit of
-its moment needs a content of this level and bucket, and the edits of all scripts, each of any version that it may have met, need
-more than the bucket has room for besides the one that is refused.
+One script's run is as plain.py answers. Of several the journal says the order: it is a legal history, each transcript
+is judged by it (judge.py), and saved files, report and line follow from it. A line `full l b` of several scripts comes
+only where the edit of its moment needs a content of this level and bucket, and the edits of all scripts, each of any
+version that it may have met, need more than the bucket has room for besides the one that is refused.
 """
 
 from random import Random

@@ -6,22 +6,23 @@ alone, and by none of the crates' code.
                                                 and what has to be said of all of them
     scenes.py large FILE [PLACEMENTS]           one file of 20 models that are placed so often, turned and moved
 
-What is said of a file: a line `fault KIND AT`; or a line `side N placements K`, and behind it the VOX file of the turned
-models and the script of their stamps.
+What is said of a file: a line `fault KIND AT`; or a line `side N placements K`, and behind it the VOX file of the
+turned models and the script of their stamps.
 
-The rules. Models are read as always; of MAIN's children nTRN, nGRP and nSHP are nodes. Numbers have four bytes, the lowest
-first. A STRING is a number and that many bytes, a DICT a number and that many pairs of STRINGs.
+The rules. Models are read as always; of MAIN's children nTRN, nGRP and nSHP are nodes. Numbers have four bytes, the
+lowest first. A STRING is a number and that many bytes, a DICT a number and that many pairs of STRINGs.
 
-- nTRN: id, DICT, child, two numbers, the number of frames, a DICT for each. nGRP: id, DICT, number, ids. nSHP: id, DICT,
-  number, and for each a model's number and a DICT. What stands behind the fields is passed over.
-- In the order of the file: the fields fit, else 1; no earlier node has the id, else 2; the first frame's `_r` is a turning,
-  else 3; its `_t` is a move, else 4; all at the position of the chunk. Of equal keys the first counts.
+- nTRN: id, DICT, child, two numbers, the number of frames, a DICT for each. nGRP: id, DICT, number, ids. nSHP: id,
+  DICT, number, and for each a model's number and a DICT. What stands behind the fields is passed over.
+- In the order of the file: the fields fit, else 1; no earlier node has the id, else 2; the first frame's `_r` is a
+  turning, else 3; its `_t` is a move, else 4; all at the position of the chunk. Of equal keys the first counts.
 - A turning has 1 to 3 digits and is at most 255. Bits 0-1 are the column of row 1, bits 2-3 that of row 2, both below 3
   and different; row 3 has the third. Bits 4 to 6 are set where the entry is -1. Without one nothing is turned.
 - A move is three numbers with single spaces between, each an optional `-` and 1 to 6 digits.
 - The walk goes from node 0, depth first. Of each visit: there is the node, else 5 and its id; it isn't the 65th on its
-  path, else 6; it isn't the 65,537th visit, nor its placement the 1,025th, else 8; the first model of a shape is below the
-  number of models, else 7. A shape without a model places nothing. Without any node each model is placed once, unturned.
+  path, else 6; it isn't the 65,537th visit, nor its placement the 1,025th, else 8; the first model of a shape is below
+  the number of models, else 7. A shape without a model places nothing. Without any node each model is placed once,
+  unturned.
 - A placement's corner is where it is moved, less half of the turned size, rounded down. The least corner is taken off.
   A placement that ends past 4,096, or a file of over 268,435,456 bytes, is 9 at 0.
 """

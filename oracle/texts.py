@@ -1,15 +1,15 @@
 """The texts of a run: scripts, transcripts, journals, reports and VOX files, written and read by these rules alone.
 
-- A journal is `voxdag journal 1`, with colours `voxdag journal 2`; `side N`, from 4 to 4096 by doubling, with colours at most 1024;
-  records `n S L ACT` with n from 1 up, at most 65535; marks `mark V AT S L` of rising versions, V below AT and AT at most the
-  number of records; and `end`. Words have one space between them, numbers no leading zeros. S is below 64, L below 2^32. Acts lie
-  in the world, a ball's radius is at most 4095, models' numbers are below 1024. With colours a fill and a ball end with a tint
-  from 1 to 255. Each line has its end, and nothing follows.
+- A journal is `voxdag journal 1`, with colours `voxdag journal 2`; `side N`, from 4 to 4096 by doubling, with colours
+  at most 1024; records `n S L ACT` with n from 1 up, at most 65535; marks `mark V AT S L` of rising versions, V below
+  AT and AT at most the number of records; and `end`. Words have one space between them, numbers no leading zeros. S is
+  below 64, L below 2^32. Acts lie in the world, a ball's radius is at most 4095, models' numbers are below 1024. With
+  colours a fill and a ball end with a tint from 1 to 255. Each line has its end, and nothing follows.
 - A transcript has lines `L @n ANSWER`, each with its end.
-- A script has a command in each line; blanks part words, numbers may have leading zeros, and a line without words or that begins
-  with `#` has none.
-- A report says for each version that is held that it is empty or which is the first one that is the same, and for each level of
-  the store how many nodes it has.
+- A script has a command in each line; blanks part words, numbers may have leading zeros, and a line without words or
+  that begins with `#` has none.
+- A report says for each version that is held that it is empty or which is the first one that is the same, and for each
+  level of the store how many nodes it has.
 """
 
 import re

@@ -8,18 +8,19 @@ by none of the crates' code.
 
 The rules, in the order in which they are tested; the first that fails is the fault, with its kind and a byte position:
 
-- The file has at least 4 bytes and begins with `VOX `: else kind 1 at 0. It has at least 8: else 4 at 4. The number at 4
-  is 150 or 200: else 2 at 4. Numbers have 4 bytes, the lowest first.
+- The file has at least 4 bytes and begins with `VOX `: else kind 1 at 0. It has at least 8: else 4 at 4. The number at
+  4 is 150 or 200: else 2 at 4. Numbers have 4 bytes, the lowest first.
 - A chunk is an id of 4 bytes, the number N of content bytes, the number M of bytes of child chunks, the content and the
-  children. At 8 stand at least 12 bytes: else 4 at 8. The id there is `MAIN`: else 3 at 8. It ends in the file: else 4 at 8.
+  children. At 8 stand at least 12 bytes: else 4 at 8. The id there is `MAIN`: else 3 at 8. It ends in the file: else 4
+  at 8.
 - MAIN's content is passed over, and so is all behind its end. Each of its children, at a place p, has its 12 bytes and
   all of its content and children before MAIN's end: else 4 at p. The next child follows there. Its own children are
   passed over. The fields of a child are tested before the frame of the next.
 - SIZE: N is at least 12: else 5 at p. Each of the three numbers is from 1 to 256: else 6 at p. It is the size that
   waits, in place of one that waited.
-- XYZI: a size waits: else 7 at p. Fewer than 1,024 models were read: else 10 at p. N is at least 4, and at least 4 + 4n for
-  the number n at the start of the content: else 8 at p. Each coordinate of the n groups x, y, z, colour is below its
-  size: else 9 at p. This is a model of the size that waits, and no size waits any more.
+- XYZI: a size waits: else 7 at p. Fewer than 1,024 models were read: else 10 at p. N is at least 4, and at least 4 + 4n
+  for the number n at the start of the content: else 8 at p. Each coordinate of the n groups x, y, z, colour is below
+  its size: else 9 at p. This is a model of the size that waits, and no size waits any more.
 - All other chunks are passed over. A model's cells are the places whose last group has a colour other than 0.
 """
 
