@@ -9,7 +9,7 @@ here=$(cd "$(dirname "$0")" && pwd)
 build scene
 plain=$work/scene
 prove_program scenes "byteorder vox_read vox_scene vw_cell" vw_cell vox_chunk vox_read vox_write plain_text vox_scene
-python3 "$here/oracle/scenes.py" write scenes.in want "${1:-1}"
+python3 "$root/oracle/scenes.py" write scenes.in want "${1:-1}"
 "$program" >/dev/null
 "$plain" >/dev/null
 cmp product.out want
