@@ -38,7 +38,7 @@ def looks(product: Product, rng: Random, history: History) -> None:
 
 def case(product: Product, rng: Random) -> None:
     setting = Setting(rng, rng.choice([4, 8, 8, 16]), True, rng.choice([0, 0, 1, 3]))
-    setting.room(*rng.choice([(None, None), (16, 256), (4096, 256)]))
+    setting.room(*rng.choice(runs.LARGE if rng.random() < 0.1 else [(16, 256), (64, 128)]))
     chance.script(setting, "s", rng.randint(1, 30), 12)
     history = runs.one_script(product, setting).history
     want("audit", product.run(*setting.audit_words()), (0, "yes\n"))

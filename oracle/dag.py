@@ -228,6 +228,7 @@ def plain_question(setting: Setting) -> str:
 def look_case(product: Product, rng: Random) -> None:
     """A run's questions of its versions, asked of the file of its journal; then questions of spoiled files."""
     setting = Setting(rng, rng.choice([4, 8, 8, 16, 32]), keep=rng.choice([0, 0, 1, 2, 4]))
+    setting.room(64, 256)
     edits = [chance.edit(setting) if rng.randrange(8) else ["forget", at // 2] for at in range(rng.randrange(12))]
     asked = [(rng.randrange(len(edits) + 2), plain_question(setting)) for _ in range(6)]
     lines = [" ".join(map(str, words)) for words in edits] + [f"at {version} {words}" for version, words in asked]

@@ -14,7 +14,7 @@ from product import Product, want
 def case(product: Product, rng: Random) -> None:
     coloured = rng.random() < 0.3
     setting = Setting(rng, 4 if coloured else rng.choice([4, 8, 8, 16]), coloured, rng.choice([0, 1, 2, 3, 4, 5]))
-    setting.room(*rng.choice([(None, None), (16, None), (8, 256)]))
+    setting.room(*rng.choice(runs.LARGE if rng.random() < 0.1 else [(16, None), (8, 256)]))
     chance.script(setting, "s", rng.randint(1, 30), 12)
     lines = setting.texts["s"].split("\n")
     for at, line in enumerate(lines):

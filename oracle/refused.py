@@ -100,11 +100,15 @@ def demo_row(number: int) -> Row:
 
 
 @functools.cache
+def built() -> tempfile.TemporaryDirectory:
+    """A folder with the library of refuse.c, which is gone at the end."""
+    folder = tempfile.TemporaryDirectory(prefix="oracle-refuse-")
+    subprocess.run(["cc", "-O2", "-Wall", "-shared", "-fPIC", "-o", f"{folder.name}/refuse.so", HERE / "refuse.c"], check=True)
+    return folder
+
+
 def library() -> str:
-    """The library of refuse.c, built once."""
-    file = pathlib.Path(tempfile.mkdtemp(prefix="oracle-refuse-")) / "refuse.so"
-    subprocess.run(["cc", "-O2", "-Wall", "-shared", "-fPIC", "-o", file, HERE / "refuse.c"], check=True)
-    return str(file)
+    return f"{built().name}/refuse.so"
 
 
 def settled(row: str, name: str, text: bytes) -> bytes | list[bytes]:

@@ -17,7 +17,9 @@ from product import Differs, Product, want
 from texts import (Answered, BadLine, Command, journal_text, read_journal, read_transcript, report_text, run_line, saved,
                    transcript_text)
 
-ROOMS = [(None, None), (None, 256), (16, None), (16, 8), (1, 256), (3, 30), (4096, 256)]
+# The first stand often: a store of many places takes a tenth of a second to open.
+ROOMS = [(16, None), (16, 8), (1, 256), (3, 30), (64, 128)]
+LARGE = [(None, None), (None, 256), (None, 100), (4096, 256)]
 
 
 def perform(product: Product, setting: Setting) -> str:
@@ -115,7 +117,7 @@ def setting(rng: Random, scripts: int) -> Setting:
     """A run by chance of so many scripts."""
     coloured = rng.random() < 0.4
     made = Setting(rng, rng.choice([4, 8, 8, 16]), coloured, rng.choice([0, 0, 0, 1, 2, 5]))
-    made.room(*rng.choice(ROOMS))
+    made.room(*rng.choice(LARGE if rng.random() < 0.1 else ROOMS))
     length = rng.choice([8, 16, 40]) if scripts == 1 else 4 if scripts > 9 else rng.choice([4, 12, 20])
     for k in range(scripts):
         chance.script(made, f"s{k}", rng.randint(0, length), 3 + length // 2)
