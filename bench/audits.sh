@@ -1,6 +1,5 @@
 #!/usr/bin/env bash
-# Audits what runs by chance left, and copies of it with one byte changed, and compares each answer with that of the slow reader
-# in audits.py; then times a run of 65,535 changes by four scripts of 100,000 lines, and its audit: bench/audits.sh [SEED]
+# Times a run of 65,535 changes by four scripts of 100,000 lines, and its audit: bench/audits.sh
 
 set -euo pipefail
 here=$(cd "$(dirname "$0")" && pwd)
@@ -9,9 +8,10 @@ source "$here/timing.sh"
 build peak
 need_product
 rm -rf "$work/audits"
-python3 "$here/audits.py" "$product" "$work/audits/small" "${1:-1}"
-python3 "$here/audits.py" large "$work/audits/large"
-cd "$work/audits/large"
+mkdir -p "$work/audits"
+cd "$work/audits"
+cp "$root/models/one.vox" m.vox
+python3 "$here/audits.py"
 best_run= best_audit=
 for round in 1 2 3; do
     measure "$product" run --buckets 4096 --cap 256 --journal j m.vox s0 s1 s2 s3

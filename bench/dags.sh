@@ -1,17 +1,14 @@
 #!/usr/bin/env bash
-# Compares what `voxdag dag` makes of journals by chance with what the slow writer dag_files/slow_writer.py makes, and then times
-# the `dag` of the peer's workload `history` beside one `run` of it: bench/dags.sh [PROGRAM] [SEED]
+# Times the `dag` of the peer's workload `history` beside one `run` of it: bench/dags.sh [PROGRAM]
 #
-# PROGRAM is ./voxdag's proved program, or another, as one that bench/unproved.sh makes. GEN names the peer's gen.py; without it
-# the workload isn't timed.
+# PROGRAM is ./voxdag's proved program, or another, as one that bench/unproved.sh makes. GEN names the peer's gen.py.
 set -eu
 here=$(cd "$(dirname "$0")" && pwd)
 root=$(dirname "$here")
 program=$(realpath "${1:-$root/.build/voxdag}")
 work=$here/work/dags
 mkdir -p "$work"
-"$here/dag_files/slow_writer.py" "$program" "$work/small" "${2:-1}"
-[ -n "${GEN:-}" ] || exit 0
+[ -n "${GEN:-}" ] || { echo "GEN names the peer's gen.py" >&2; exit 2; }
 cc -O2 -o "$work/peak" "$here/peak.c"
 python3 "$GEN" "$work" history
 cd "$work"

@@ -18,7 +18,7 @@ for n in "$@"; do
     rm -rf "$made/product" "$made/python"
     mkdir -p "$made/product" "$made/python"
     (cd "$made/product" && "$product" demo "$n" > printed)
-    (cd "$made/python" && python3 "$here/load/demo.py" "$n" > printed)
+    (cd "$made/python" && python3 "$root/oracle/demo.py" "$n" > printed)
     for of in product python; do
         sed -i 's/^\([0-9]* \)@[0-9]* /\1/' "$made/$of"/demo.*.out
         sed 's/^[0-9]* //' "$made/$of/demo.journal" | sort > "$made/$of/records"

@@ -4,7 +4,7 @@
 # One script of 50,000 fills and erasures in a world of side 256, with and without `--keep 100`, and the same number of changes by four
 # scripts at the same time, each in its quarter. It prints the best times and their ratios (the aims are 1.2 and 1.1), the peaks of
 # memory, and of the first script's beginnings of 1,000, 2,000, .. changes how many nodes were live at their ends: the most and the
-# last with `--keep 100`, and the last without. Both audits have to say yes. Last it compares runs by chance with a plain run.
+# last with `--keep 100`, and the last without. Both audits have to say yes.
 set -euo pipefail
 here=$(cd "$(dirname "$0")" && pwd)
 source "$here/timing.sh"
@@ -73,4 +73,3 @@ for k in $(seq 1 50); do
 done
 echo "live nodes at the ends of the first script's 50 beginnings, last 100: at most $most, last $now;" \
     "all: last $(live "$("$product" run $store m.vox one)")"
-python3 "$here/keep_by_chance.py" "$product" "$folder/chance" 1 300

@@ -3,7 +3,7 @@
 #
 # The program bench/load/main.rt.in stands in no crates.txt, and not under the name of a source, so that the gate
 # doesn't ask for its proof. This makes a folder of copies, proves and builds the program there, and runs it and
-# bench/load/load.py on each number: side, VOX file and scripts must be the same bytes. It needs Python. With words it
+# oracle/load.py on each number: side, VOX file and scripts must be the same bytes. It needs Python. With words it
 # compares the loads of these numbers instead.
 set -eu
 here=$(cd "$(dirname "$0")" && pwd)
@@ -13,7 +13,7 @@ prove_program load "vw_cell vox_read vox_write history_model plain_text gen_load
 [ $# -gt 0 ] || set -- 7 0 1 12345 999999 4294967295
 for n in "$@"; do
     "$program" "$n" > product
-    python3 "$here/load/load.py" "$n" > peer
+    python3 "$root/oracle/load.py" "$n" > peer
     cmp product peer || { echo "$n: the loads differ" >&2; exit 1; }
     echo "$n: the same $(wc -c < product) bytes"
 done

@@ -1,6 +1,5 @@
 #!/usr/bin/env bash
-# Compares `voxdag look` with `run` and with the slow reader on files by chance (dag_files/by_chance.py), and then times
-# `voxdag look DAG 0 count` over a whole file of about 100 MB: bench/looks.sh [PROGRAM] [SEED]
+# Times `voxdag look DAG 0 count` over a whole file of about 100 MB: bench/looks.sh [PROGRAM]
 #
 # PROGRAM is ./voxdag's proved program, or another, as one that bench/unproved.sh makes. It and the peer dag_files/once.c, which
 # reads the file once, run in turn. It prints the best time of each, their ratio, and the greatest peak memory of each.
@@ -10,7 +9,6 @@ root=$(dirname "$here")
 program=$(realpath "${1:-$root/.build/voxdag}")
 work=$here/work/looks
 mkdir -p "$work"
-"$here/dag_files/by_chance.py" "$program" "$work/small" "${2:-1}"
 cc -O2 -o "$work/once" "$here/dag_files/once.c"
 cc -O2 -o "$work/peak" "$here/peak.c"
 [ -s "$work/big.dag" ] || "$here/dag_files/big_file.py" "$work/big.dag"

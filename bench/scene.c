@@ -1,7 +1,7 @@
 // The peer of the reader of scenes: reads the files of scenes.in, each behind its length in four bytes, and writes to
 // peer.out what is said of each, as the product does: a fault, or the scene's line, its models' file and its script. Prints
 // the microseconds of the best of five rounds and the number of bytes written. Models are taken as they are; all else of
-// the rules in scene_files.py is tested.
+// the rules in oracle/scenes.py is tested.
 
 #include <stdbool.h>
 #include <stdint.h>

@@ -1,6 +1,6 @@
 #!/usr/bin/env bash
 # Compares what `voxdag count` and its peer in C say of some 5,000 VOX files, most of them broken, with what the slow reader
-# in vox_files.py says: bench/vox_compare.sh [SEED]
+# in oracle/vox.py says: bench/vox_compare.sh [SEED]
 
 set -euo pipefail
 here=$(cd "$(dirname "$0")" && pwd)
@@ -9,7 +9,7 @@ source "$here/timing.sh"
 build read
 need_product
 rm -rf "$work/vox_files"
-python3 "$here/vox_files.py" write "$work/vox_files" "${1:-1}"
+python3 "$root/oracle/vox.py" write "$work/vox_files" "${1:-1}"
 for program in "$work/read" "$product"; do
-    python3 "$here/vox_files.py" compare "$work/vox_files" "$program"
+    python3 "$root/oracle/vox.py" compare "$work/vox_files" "$program"
 done

@@ -1,4 +1,4 @@
-// Buckets computed outside, by bench/buckets.py from the rule's text.
+// Buckets computed outside, by oracle/buckets.py from the rule's text.
 use node_words::{Key, Name, Plan, Share, bucket_of};
 use std::process::Abort;
 use std::test::Fail;

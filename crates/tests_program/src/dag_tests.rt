@@ -114,7 +114,7 @@ fn words_of_dag(rt: HostRuntime) -> Result<(), Fail> {
 }
 
 // A journal by chance, the length of its file, and one number of all its bytes, as the slow writer
-// in bench/dag_files/slow_writer.py has them.
+// in oracle/dag.py has them.
 const BY_CHANCE: &[(&str, usize, u64)] = &[
     (
         "voxdag journal 1\n\

@@ -1,17 +1,19 @@
 #!/usr/bin/env python3
-"""Runs a program again and again, with another allocation refused each time: refused.py PROGRAM LIBRARY [ROW ..]
+"""Runs a program again and again, with another allocation refused each time: refused.py PROGRAM [ROW ..]
 
-LIBRARY is refuse.c, built. Each row below is run with nothing refused, then with its first allocation refused, its second
-and so on, until one isn't reached any more, and then without threads. With an allocation refused it has to end with status
-0, or with status 8 and the line `voxdag: memory` or none; the outputs that stand have to be the first ones of their list,
-each whole, and all of them with status 0. Without threads it has to end as with nothing refused. The first run that ends
-otherwise is shown, with status 1.
+Each row below is run with nothing refused, then with its first allocation refused, its second and so on, until one
+isn't reached any more, and then without threads. With an allocation refused it has to end with status 0, or with status
+8 and the line `voxdag: memory` or none; the outputs that stand have to be the first ones of their list, each whole, and
+all of them with status 0. Without threads it has to end as with nothing refused. The first run that ends otherwise is
+shown, with status 1. `oracle/run` draws some allocations and threads by chance instead. It needs a C compiler for
+refuse.c.
 
-Whole is what the row says in bytes here, or what the program in load/demo.py gives. Of scripts that run at the same time
-the moments and the order of the records are left out, as these may differ from run to run.
+Whole is what the row says in bytes here, or what demo.py gives. Of scripts that run at the same time the moments and
+the order of the records are left out, as these may differ from run to run.
 """
 import collections
 import concurrent.futures
+import functools
 import os
 import pathlib
 import re
@@ -19,9 +21,14 @@ import struct
 import subprocess
 import sys
 import tempfile
+from random import Random
+
+import demo
+from product import Differs, Product
 
 HERE = pathlib.Path(__file__).resolve().parent
 WORKERS = 4
+Row = tuple[str, str, dict[str, bytes], dict[str, bytes]]
 
 ONE = b"VOX " + struct.pack("<I", 150) + b"MAIN" + struct.pack("<II", 0, 44) \
     + b"SIZE" + struct.pack("<5I", 12, 0, 1, 1, 1) + b"XYZI" + struct.pack("<3I", 8, 0, 1) + bytes([0, 0, 0, 1])
@@ -84,16 +91,27 @@ ROWS = [
 ]
 
 
-def demo(number):
-    """The row of a demo, from the program that was written from the rules alone."""
-    with tempfile.TemporaryDirectory() as folder:
-        done = subprocess.run([sys.executable, HERE / "load/demo.py", str(number)], cwd=folder, check=True, stdout=subprocess.PIPE)
-        names = [f"demo.{i}.out" for i in range(4)] + ["demo.journal"]
-        outputs = {name: (pathlib.Path(folder) / name).read_bytes() for name in names}
-    return f"demo{number}", f"demo {number}", {}, {**outputs, "printed": done.stdout}
+@functools.cache
+def demo_row(number: int) -> Row:
+    """The row of a demo."""
+    made = demo.demo(number)
+    outputs = {f"demo.{i}.out": text.encode() for i, text in enumerate(made.transcripts)}
+    return f"demo{number}", f"demo {number}", {}, {**outputs, "demo.journal": made.journal.encode(), "printed": made.printed.encode()}
 
 
-def settled(row, name, text):
+@functools.cache
+def built() -> tempfile.TemporaryDirectory:
+    """A folder with the library of refuse.c, which is gone at the end."""
+    folder = tempfile.TemporaryDirectory(prefix="oracle-refuse-")
+    subprocess.run(["cc", "-O2", "-Wall", "-shared", "-fPIC", "-o", f"{folder.name}/refuse.so", HERE / "refuse.c"], check=True)
+    return folder
+
+
+def library() -> str:
+    return f"{built().name}/refuse.so"
+
+
+def settled(row: str, name: str, text: bytes) -> bytes | list[bytes]:
     """The part of an output that is the same at each run: one script's is the whole."""
     if not row.startswith("demo"):
         return text
@@ -102,29 +120,27 @@ def settled(row, name, text):
     return re.sub(rb"(?m)^(\d+) @\d+ ", rb"\1 ", text)
 
 
-def run(program, library, row, call=0, thread=0):
+def run(program: str, top: str, row: Row, call: int = 0, thread: int = 0) -> tuple[int | str, dict[str, bytes], tuple]:
     """One run: its status, the outputs that stand and what is printed, and how many calls of both kinds there were."""
     _, words, inputs, _ = row
-    with tempfile.TemporaryDirectory() as top:
-        folder = pathlib.Path(top) / "run"
-        folder.mkdir()
-        for name, text in inputs.items():
-            (folder / name).write_bytes(text)
-        counts = pathlib.Path(top) / "counts"
-        counts.write_bytes(bytes(16))
-        environment = {**os.environ, "LD_PRELOAD": library, "REFUSE_COUNTS": str(counts), "REFUSE_CALL": str(call),
-                       "REFUSE_THREAD": str(thread)}
-        try:
-            done = subprocess.run([program, *words.split()], cwd=folder, env=environment, stdin=subprocess.DEVNULL,
-                                  stdout=subprocess.PIPE, stderr=subprocess.DEVNULL, timeout=120)
-            status, printed = done.returncode, done.stdout
-        except subprocess.TimeoutExpired as expired:
-            status, printed = "no end", expired.stdout or b""
-        given = {path.name: path.read_bytes() for path in folder.iterdir() if inputs.get(path.name) != path.read_bytes()}
-        return status, {**given, "printed": printed}, struct.unpack("<QQ", counts.read_bytes())
+    folder = pathlib.Path(tempfile.mkdtemp(prefix="run-", dir=top))
+    for name, text in inputs.items():
+        (folder / name).write_bytes(text)
+    counts = folder.with_suffix(".counts")
+    counts.write_bytes(bytes(16))
+    environment = {**os.environ, "LD_PRELOAD": library(), "REFUSE_COUNTS": str(counts), "REFUSE_CALL": str(call),
+                   "REFUSE_THREAD": str(thread)}
+    try:
+        done = subprocess.run([program, *words.split()], cwd=folder, env=environment, stdin=subprocess.DEVNULL,
+                              stdout=subprocess.PIPE, stderr=subprocess.DEVNULL, timeout=120, check=False)
+        status, printed = done.returncode, done.stdout
+    except subprocess.TimeoutExpired as expired:
+        status, printed = "no end", expired.stdout or b""
+    given = {path.name: path.read_bytes() for path in folder.iterdir() if inputs.get(path.name) != path.read_bytes()}
+    return status, {**given, "printed": printed}, struct.unpack("<QQ", counts.read_bytes())
 
 
-def fault(row, status, given, must_end):
+def fault(row: Row, status: int | str, given: dict[str, bytes], must_end: bool) -> str | None:
     """What is wrong with how a run ended, or nothing."""
     name, _, _, wanted = row
     files = [output for output in wanted if output in given and output != "printed"]
@@ -142,12 +158,12 @@ def fault(row, status, given, must_end):
     return None if given["printed"] in (b"", b"voxdag: memory\n") else f"it printed {given['printed']!r}"
 
 
-def try_row(program, library, row):
+def try_row(program: str, top: str, row: Row) -> None:
     """Runs a row in all ways, and says how it ended."""
     ways = collections.Counter()
 
-    def tried(call=0, thread=0):
-        status, given, counts = run(program, library, row, call, thread)
+    def tried(call: int = 0, thread: int = 0) -> tuple:
+        status, given, counts = run(program, top, row, call, thread)
         said = fault(row, status, given, call == 0)
         if said:
             sys.exit(f"{row[0]}, allocation {call}, thread {thread}: {said}")
@@ -171,12 +187,35 @@ def try_row(program, library, row):
         print(f"  {threads} threads, refused from each of them on in turn: status 0, all outputs there")
 
 
-def main():
-    program, library = (str(pathlib.Path(name).resolve()) for name in sys.argv[1:3])
-    rows = [*ROWS, demo(7)]
-    for row in rows:
-        if row[0] in sys.argv[3:] or not sys.argv[3:]:
-            try_row(program, library, row)
+@functools.cache
+def reached(program: str, row: int) -> tuple[int, int]:
+    """How many allocations and threads a row has with nothing refused."""
+    with tempfile.TemporaryDirectory() as top:
+        return run(program, top, rows()[row])[2]
+
+
+def rows() -> list[Row]:
+    return [*ROWS, demo_row(7)]
+
+
+def case(product: Product, rng: Random) -> None:
+    """A row with one allocation refused, or its threads from one on."""
+    number = rng.choice([0, 0, 1, 1, 2, 3, 4, 5])
+    row, program = rows()[number], str(product.program)
+    calls, threads = reached(program, number)
+    call, thread = (0, rng.randint(1, threads)) if threads and rng.randrange(6) == 0 else (rng.randint(1, calls), 0)
+    product.asked.append(f"{row[1]}, with allocation {call} or thread {thread} refused")
+    status, given, _ = run(program, str(product.folder), row, call, thread)
+    if told := fault(row, status, given, call == 0):
+        raise Differs(f"{row[0]}, allocation {call}, thread {thread}: {told}")
+
+
+def main() -> None:
+    program = str(pathlib.Path(sys.argv[1]).resolve())
+    for row in rows():
+        if row[0] in sys.argv[2:] or not sys.argv[2:]:
+            with tempfile.TemporaryDirectory() as top:
+                try_row(program, top, row)
 
 
 if __name__ == "__main__":

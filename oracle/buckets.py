@@ -7,13 +7,15 @@ else 1 plus that child's bucket. The hash starts with 0x9E3779B97F4A7C15. For ea
 h = ((h xor w) * 0xBF58476D1CE4E5B9) mod 2^64, then h = h xor (h >> 29). After the last word:
 h = ((h xor (h >> 32)) * 0x94D049BB133111EB) mod 2^64, then h = h xor (h >> 29). The bucket is (h >> 32) mod B.
 
-Run it to print the rows of the table in crates/node_words/src/tests.rt.
+Run it to print the rows of the table in crates/tests_base/src/keys.rt.
 """
+
+from collections.abc import Iterable
 
 MASK = (1 << 64) - 1
 
 
-def bucket(words, buckets):
+def bucket(words: Iterable[int], buckets: int) -> int:
     h = 0x9E3779B97F4A7C15
     for w in words:
         h = ((h ^ w) * 0xBF58476D1CE4E5B9) & MASK
@@ -23,7 +25,7 @@ def bucket(words, buckets):
     return (h >> 32) % buckets
 
 
-def node_words(children):
+def node_words(children: list[int | None]) -> list[int]:
     t = [0 if c is None else 1 + c for c in children]
     return [t[2 * i] + (t[2 * i + 1] << 32) for i in range(4)]
 
@@ -47,7 +49,7 @@ NODES = [
 BUCKETS = [1, 2, 7, 256, 1024, 4096, 65535]
 
 
-def main():
+def main() -> None:
     for bits in LEAVES:
         print(f"        (0x{bits:016x}, [{', '.join(str(bucket([bits], b)) for b in BUCKETS)}]),")
     print()
