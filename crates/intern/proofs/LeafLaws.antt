@@ -270,8 +270,7 @@ pub may_leaf : (p : Layout) (v : SeatView) (l b bits slot : ℕ) → l ≡ 0 →
     → PassesBelow v.words (Leaf bits) (bucket_named l b) p.cap → number_of_trees v.held ≤ 4095
     → MayAdd p v (named l b slot) (Leaf bits)
 may_leaf p v l b bits slot level some fits is first none room = record {
-  slot = first.inside;
-  free = first.free;
+  first = first;
   none = none;
   fits = subst (λ (k : ℕ). FitsLevel k (Leaf bits)) (sym level) (some, fits);
   bucket = is ∙ ap (λ (k : ℕ). leaf_bucket bits (buckets_at p k)) (sym level);

@@ -1,5 +1,5 @@
 -- What reading the log makes of a view.
-use Rattle.std.proofs.Common.{◌≡◌, ◌≢◌, ℕ, zero, suc, ◌+◌, ◌/◌, ◌%◌, ◌^◌, ◌<◌, ◌≤◌, eqb, true, false, Some, None, List, [], ◌∷◌, ◌++◌, take, refl, sym, ap, ◌∙◌, subst, arith, append_assoc, append-nil, length-append}
+use Rattle.std.proofs.Common.{◌≡◌, ◌≢◌, ℕ, zero, suc, ◌+◌, ◌/◌, ◌%◌, ◌^◌, ◌<◌, ◌≤◌, eqb, true, false, Some, None, List, [], ◌∷◌, ◌++◌, take, refl, sym, ap, ◌∙◌, subst, arith, append_assoc, append-nil, length, length-append, get_or}
 use Rattle.std.specs.Prelude.{slice_index}
 use Rattle.std.specs.List.{Contains, slice_get}
 use Rattle.std.proofs.lemmas.Option.{none-some}
@@ -23,7 +23,7 @@ use Rattle.table_rule.proofs.MarkLists.{with_keeps}
 use Rattle.node_table.specs.Learning.{WordsStay}
 use Rattle.node_table.specs.Seen.{TableSeen, PassSeen, SamePass}
 use Rattle.node_table.proofs.Learned.{belongs_on, grows_one}
-use Rattle.node_table.specs.LogTurns.{AreWordsOf, FoundMark, FoundOpen, HasLogTurn, IsBusy, IsMarkKnown, IsWordOf, LearnsLog, MeetsBusy, SeesMark, SeesMore, TakesLog, with_log}
+use Rattle.node_table.specs.LogTurns.{AreOthers, AreWordsOf, FoundMark, FoundOpen, HasLogTurn, IsBusy, IsMarkKnown, IsWordOf, LearnsLog, MeetsBusy, SeesMark, SeesMore, TakesLog, with_log}
 
 -- a word of a version tells no length
 pub length_else : (u i n : ℕ) (ws : List (Spot × ℕ))
@@ -167,11 +167,12 @@ sees_word v w x n is = record {
 }
 
 -- the turn came, once others were met, and then records were seen
-pub takes_log_on : (v m u w : SeatView) → MeetsBusy v m → u ≡ log_turned m true → SeesMore u w
-    → TakesLog v w
+pub takes_log_on : {made : ℕ} (v m u w : SeatView) → MeetsBusy made v m → u ≡ log_turned m true
+    → SeesMore u w → TakesLog made v w
 takes_log_on v m u w busy turned s = record {
   more = s.more;
   met = busy.met;
+  others = busy.others;
   is = s.is
       ∙ ap (λ (x : SeatView). (let z : SeatView = with_log x (record x.log {
         words = w.log.words;
@@ -186,21 +187,39 @@ pub takes_at_once : (v u w : SeatView) → u ≡ log_turned v true → SeesMore 
 takes_at_once v u w turned s =
     ap (λ (x : SeatView). x.log.busy) s.is ∙ ap (λ (x : SeatView). x.log.busy) turned
 
-pub meets_none : (v : SeatView) → MeetsBusy v v
-meets_none v = record { met = []; is = refl }
+pub meets_none : {made : ℕ} (v : SeatView) → MeetsBusy made v v
+meets_none v = record {
+  met = [];
+  others = record { each = λ n c. absurd (let k = c.1 in omega arith) };
+  is = refl;
+}
 
-pub meets_one : (u v w : SeatView) → MeetsBusy u v → IsBusy v w → MeetsBusy u w
-meets_one u v w a b = record {
+-- one more of the others is met
+one_other : (made : ℕ) (own met : List ℕ) (other : ℕ) → AreOthers made own met → other < made
+    → ¬ Contains own other → AreOthers made own (other ∷ met)
+one_other made own met other others begun not_own = record { each = λ n c. go n c.0 c.1 c.2 }
+  where
+    go : (n k : ℕ) → k < length (other ∷ met) → get_or (other ∷ met) k n ≡ n
+        → (n < made) × ¬ Contains own n
+    go n zero lt e = subst (λ (m : ℕ). (m < made) × ¬ Contains own m) e (begun, not_own)
+    go n (suc k) lt e = others.each n (k, omega arith, e)
+
+pub meets_one : {made : ℕ} (u v w : SeatView) → v.numbers ≡ u.numbers → MeetsBusy made u v
+    → IsBusy made v w → MeetsBusy made u w
+meets_one {made} u v w same a b = record {
   met = b.other ∷ a.met;
+  others = one_other made u.numbers a.met b.other a.others b.begun
+      (subst (λ (ns : List ℕ). ¬ Contains ns b.other) same b.not_own);
   is = b.is ∙ ap (λ (x : SeatView). (let z : SeatView = met_busy x b.other in z)) a.is;
 }
 
-pub busy_from : (v w : SeatView) (found : ℕ) → eqb found 0 ≡ false
-    → ((n : ℕ) → found ≡ suc n → (w ≡ met_busy v n) × (n < 64) × ¬ Contains v.numbers n)
-    → IsBusy v w
+pub busy_from : {made : ℕ} (v w : SeatView) (found : ℕ) → eqb found 0 ≡ false
+    → ((n : ℕ) → found ≡ suc n → (w ≡ met_busy v n) × (n < made) × ¬ Contains v.numbers n)
+    → IsBusy made v w
 busy_from v w zero e told = absurd (let no : ⊥ = cc in no)
 busy_from v w (suc other) e told =
-    let t = told other refl in record { other = other; not_own = t.2; is = t.0 }
+    let t = told other refl in
+    record { other = other; begun = t.1; not_own = t.2; is = t.0 }
 
 -- what is learned of the log chains
 pub learns_log_on : (u v w : SeatView) → LearnsLog u v → LearnsLog v w → LearnsLog u w

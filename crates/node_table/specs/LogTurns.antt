@@ -53,27 +53,34 @@ pub record SeesMore (v w : SeatView) : Type 0 where
     seen = record v.log.seen { records = v.log.seen.records ++ more };
   })
 
+-- these numbers are of other sessions than these, each one of those that the table was begun with
+pub record AreOthers (made : ℕ) (own met : List ℕ) : Type 0 where
+  pub each : (n : ℕ) → Contains met n → (n < made) × ¬ Contains own n
+
 -- other sessions were met that have the log's turn, and nothing else changed
-pub record MeetsBusy (v w : SeatView) : Type 0 where
+pub record MeetsBusy (made : ℕ) (v w : SeatView) : Type 0 where
   pub met : List ℕ
+  pub others : AreOthers made v.numbers met
   pub is : w ≡ with_log v (record v.log { busy = met ++ v.log.busy })
 
 -- and then the turn came
-pub record TurnsLog (v w : SeatView) : Type 0 where
+pub record TurnsLog (made : ℕ) (v w : SeatView) : Type 0 where
   pub before : SeatView
-  pub met : MeetsBusy v before
+  pub met : MeetsBusy made v before
   pub is : w ≡ log_turned before true
 
--- the log's turn didn't come, since another session has it: its number is noted
-pub record IsBusy (v w : SeatView) : Type 0 where
+-- the log's turn didn't come, since another session has it, one of so many: its number is noted
+pub record IsBusy (made : ℕ) (v w : SeatView) : Type 0 where
   pub other : ℕ
+  pub begun : other < made
   pub not_own : ¬ Contains v.numbers other
   pub is : w ≡ met_busy v other
 
 -- the log's turn came, and the records that were not seen; whoever had it was noted
-pub record TakesLog (v w : SeatView) : Type 0 where
+pub record TakesLog (made : ℕ) (v w : SeatView) : Type 0 where
   pub more : List Record
   pub met : List ℕ
+  pub others : AreOthers made v.numbers met
   pub is : w ≡ with_log v (record v.log {
     turn = true;
     words = w.log.words;

@@ -82,7 +82,7 @@ fn try_take(table: &NodeTable, seat: &mut NumberedSeat) -> bool
     requires idle { seat.old.view.log.turn ≡ false }
     ensures same { SamePass seat.old seat.new }
     ensures taken { result ≡ true → seat.new.view ≡ log_turned seat.old.view true }
-    ensures busy { result ≡ false → IsBusy seat.old.view seat.new.view }
+    ensures busy { result ≡ false → IsBusy table.now.made seat.old.view seat.new.view }
 {
     let found = take_log(table, seat);
     found == 0
@@ -93,7 +93,7 @@ fn wait_turn<R: Wait>(rt: &R, table: &NodeTable, seat: &mut NumberedSeat)
     requires of { BelongsTo table.now seat.old }
     requires idle { seat.old.view.log.turn ≡ false }
     ensures same { SamePass seat.old seat.new }
-    ensures view { TurnsLog seat.old.view seat.new.view }
+    ensures view { TurnsLog table.now.made seat.old.view seat.new.view }
 {
     let mut times = 2;
     for _ in rt.forever() {
@@ -110,7 +110,7 @@ pub(crate) fn wait_log<R: Wait>(rt: &R, table: &NodeTable, pass: &mut Pass)
     requires of { BelongsTo table.now pass.old }
     requires idle { HasNoTurn pass.old.view }
     ensures turn { HasLogTurn table.now pass.new }
-    ensures view { TakesLog pass.old.view pass.new.view }
+    ensures view { TakesLog table.now.made pass.old.view pass.new.view }
     ensures same { pass.new.table ≡ pass.old.table }
 {
     wait_turn(rt, table, &mut pass.seat);
@@ -122,7 +122,7 @@ pub(crate) fn try_log(table: &NodeTable, pass: &mut Pass) -> bool
     requires of { BelongsTo table.now pass.old }
     requires idle { HasNoTurn pass.old.view }
     ensures { MatchBool result
-        (HasLogTurn table.now pass.new × TakesLog pass.old.view pass.new.view
+        (HasLogTurn table.now pass.new × TakesLog table.now.made pass.old.view pass.new.view
         × (pass.new.view.log.busy ≡ pass.old.view.log.busy))
         (LeavesBusy table.now pass.old pass.new) }
 {

@@ -28,7 +28,7 @@ pub(crate) fn take_log(table: &NodeTable, seat: &mut NumberedSeat) -> u64
     ensures same { SamePass seat.old seat.new }
     ensures taken { result ≡ 0 → seat.new.view ≡ log_turned seat.old.view true }
     ensures busy { (other : ℕ) → result ≡ suc other
-        → (seat.new.view ≡ met_busy seat.old.view other) × (other < 64)
+        → (seat.new.view ≡ met_busy seat.old.view other) × (other < table.now.made)
         × ¬ Contains seat.old.view.numbers other }
 {
     let mine = 1 + u64::from(seat.number);

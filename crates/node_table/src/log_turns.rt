@@ -36,7 +36,7 @@ impl NodeTable {
         ensures table { result.table.now ≡ self.now }
         ensures turn { HasLogTurn self.now result.pass.now }
         ensures same { result.pass.now.table ≡ pass.old.table }
-        ensures view { TakesLog pass.old.view result.pass.now.view }
+        ensures view { TakesLog self.now.made pass.old.view result.pass.now.view }
     {
         log_acts::wait_log(rt, self, pass);
         LogTurn { table: self, pass }
@@ -44,8 +44,8 @@ impl NodeTable {
 }
 
 impl Pass {
-    /// Tries once to take the log's turn; all records of the log are seen then. `None` comes
-    /// exactly where another session has it, whose number is noted.
+    /// Tries once to take the log's turn; all records of the log are seen then. Where another
+    /// session has it, its number is noted.
     pub fn try_log_turn<'a>(&'a mut self, table: &'a NodeTable) -> Option<LogTurn<'a>>
         requires of { BelongsTo table.now self.old }
         requires idle { HasNoTurn self.old.view }
@@ -53,7 +53,8 @@ impl Pass {
         ensures pass { IfSome result (λ t. t.pass.ghost_name ≡ self.entry.ghost_name) }
         ensures table { IfSome result (λ t. t.table.now ≡ table.now) }
         ensures turn { IfSome result (λ t. HasLogTurn table.now t.pass.now) }
-        ensures takes { IfSome result (λ t. TakesLog self.old.view t.pass.now.view) }
+        ensures takes { IfSome result
+            (λ t. TakesLog table.now.made self.old.view t.pass.now.view) }
         ensures at_once { IfSome result
             (λ t. t.pass.now.view.log.busy ≡ self.old.view.log.busy) }
     {

@@ -1,5 +1,5 @@
 -- What each call did, by what the call met.
-use Rattle.std.proofs.Common.{◌≡◌, ℕ, zero, suc, ◌≤◌, Option, List, refl, sym, ◌∙◌, ap, subst, arith}
+use Rattle.std.proofs.Common.{◌≡◌, ℕ, zero, suc, ◌≤◌, Option, List, ◌∷◌, refl, sym, ◌∙◌, ap, subst, arith}
 use Rattle.std.specs.Prelude.{Result, Ok, Err, IfOk, IfErr, MatchResult}
 use Rattle.node_words.specs.declared.shapes.names.Name.{Name}
 use Rattle.node_words.specs.shapes.Tree.{Tree}
@@ -14,12 +14,12 @@ use Rattle.core_laws.specs.States.{IsLive}
 use Rattle.core_laws.specs.Events.{IsMissing}
 use Rattle.core_laws.specs.Soundness.{FitsLevel, IsFull}
 use Rattle.core_laws.proofs.Lives.{child_level}
-use Rattle.one_store.specs.entries.Words.{Written, book_in, HasEntry, IsLowestFree}
+use Rattle.one_store.specs.entries.Words.{Written, book_in, key_in, HasEntry, IsLowestFree}
 use Rattle.one_store.specs.entries.Changes.{PutsEntry}
 use Rattle.one_store.specs.declared.sought.SoughtKey.{SoughtKey}
 use Rattle.one_store.specs.Known.{Known, IsStore, core_of}
-use Rattle.one_store.specs.Steps.{Moves, RaisesShare, LowersShare, FreesNode, ReleasesRow, AddsNode, MeetsFull, IsSoughtKey, sought_key}
-use Rattle.one_store.specs.Calls.{SharesEntry, MakesEntry, FindsFull, GivesBack}
+use Rattle.one_store.specs.Steps.{Moves, RaisesShare, LowersShare, FreesNode, ReleasesRow, AddsNode, MeetsFull, IsSoughtKey, sought_key, shape_over}
+use Rattle.one_store.specs.Calls.{SharesEntry, JoinsEntry, MakesEntry, FindsFull, GivesBack}
 use Rattle.one_store.proofs.StoreLaws.{book_moves}
 use Rattle.one_store.proofs.BackLaws.{moves_on}
 use Rattle.one_store.proofs.TraitLaws.{IsFound, found_live}
@@ -69,17 +69,22 @@ shares_found old new s n m r number level k st e q f a same h l =
     let one = same_entry old s n m number level k st e q f h l in (
       same ∙ one,
       subst (λ (x : Name). SharesEntry old x new) one
-          (record { words = a.words; roots = a.roots }),
+          (record { words = a.words; roots = a.roots; only = a.told.only }),
     )
 
 pub joins_found : (old mid new : Known) (s : SoughtKey) (n m r : Name) (number level steps now : ℕ)
     (k : Key) (row : ℕ → Tree) → IsStore old number → s.level ≡ level → sought_key s ≡ k
     → IsFound old s n → RaisesShare old n mid → ReleasesRow mid row 8 new steps now → r ≡ n
-    → HasEntry old.words m k → m.level ≡ level → (r ≡ m) × Moves old new
+    → HasEntry old.words m k → m.level ≡ level → (r ≡ m) × JoinsEntry old new
 joins_found old mid new s n m r number level steps now k row st e q f a b same h l = (
   same ∙ same_entry old s n m number level k st e q f h l,
-  moves_on old mid new
-      (book_moves old mid n _ a.words a.roots) b.moves,
+  record {
+    moves = moves_on old mid new (book_moves old mid n _ a.words a.roots) b.moves;
+    only = record {
+      made = b.only.made ∙ a.told.only.made;
+      met = b.only.met ∙ a.told.only.met;
+    };
+  },
 )
 
 -- where a key was found, it isn't missing
@@ -111,6 +116,9 @@ adds_entry old new s n level k sk e q a =
           (subst (λ (l : ℕ). IsLowestFree old.words l s.bucket n.slot) e a.lowest);
       words = subst (λ (x : Key). PutsEntry old.words n x new.words) q a.words;
       roots = a.roots;
+      made = a.told.made
+          ∙ ap (λ (x : Key). shape_over s.level (key_in old.words) x ∷ old.told.made) q
+          ∙ ap (λ (l : ℕ). shape_over l (key_in old.words) k ∷ old.told.made) e;
     }
 
 pub finds_full : (old new : Known) (s : SoughtKey) (level bucket : ℕ) (k : Key)

@@ -43,8 +43,8 @@ impl NodeStore for OneStore {
     ghost use Rattle.core_laws.specs.Events.{IsMissing};
     ghost use Rattle.one_store.specs.entries.Words.{HasEntry};
     ghost use Rattle.one_store.specs.Known.{core_of, known_seen};
-    ghost use Rattle.one_store.specs.Steps.{Moves, SparesRoots};
-    ghost use Rattle.one_store.specs.Calls.{SharesEntry, MakesEntry, FindsFull, GivesBack};
+    ghost use Rattle.one_store.specs.Steps.{SparesRoots};
+    ghost use Rattle.one_store.specs.Calls.{SharesEntry, JoinsEntry, MakesEntry, FindsFull, GivesBack};
 
     fn held(&self) -> u32 {
         self.number()
@@ -117,7 +117,7 @@ impl NodeStore for OneStore {
         ensures turns { steps.new ≤ steps.old + 9 }
         // The entry that has the key is the node.
         ensures shared { (n : Name) → HasEntry self.old.words n (Node children)
-            → IsOkAnd result (λ m. (m ≡ n) × Moves self.old self.new) }
+            → IsOkAnd result (λ m. (m ≡ n) × JoinsEntry self.old self.new) }
         // Where none has it, one is added, or the bucket is full.
         ensures added { IsMissing self.old.words.plan (core_of self.old) level (Node children)
             → MatchResult result (λ n. MakesEntry self.old level (Node children) n self.new)

@@ -16,7 +16,7 @@ use Rattle.table_rule.specs.Rules.{SameSession}
 use Rattle.table_rule.specs.Views.{SeatView, known_at}
 use Rattle.node_table.specs.LogTurns.{HasLogTurn, HasNoTurn, LooksForMark, TakesLog, log_left}
 use Rattle.node_table.specs.Seen.{TableSeen, PassSeen, BelongsTo, SamePass}
-use Rattle.version_log.proofs.LookLaws.{begins_itself, found_looks, left_looks, looks_on}
+use Rattle.version_log.proofs.LookLaws.{begins_itself, found_looks, left_looks, looks_on, others_by}
 use Rattle.version_log.specs.Falling.{CommitsNext}
 use Rattle.version_log.specs.declared.committed.Committed.{Committed}
 use Rattle.version_log.specs.Keeping.{OnlyKeeps}
@@ -155,7 +155,7 @@ added_same t u v w keep line act root c same h of made =
 
 -- ---- a version is looked at, and a share of its root is taken
 
-pub taken_held : (v w : SeatView) → TakesLog v w → w.held ≡ v.held
+pub taken_held : {made : ℕ} (v w : SeatView) → TakesLog made v w → w.held ≡ v.held
 taken_held v w t = ap (λ (x : SeatView). x.held) t.is
 
 pub looked_held : (v w : SeatView) (n : ℕ) (m : Option Mark) → LooksForMark v n m w
@@ -184,7 +184,7 @@ keeps_looks v w k =
       };
       records = ap (λ (l : LogView). l.records) k.log;
       marks = ap (λ (l : LogView). l.marks) k.log;
-      busy = record { met = []; is = ap (λ (l : LogView). l.busy) k.log };
+      busy = others_by v.numbers v.log.busy w.log.busy (ap (λ (l : LogView). l.busy) k.log);
       made = k.made;
       met = k.met;
     }

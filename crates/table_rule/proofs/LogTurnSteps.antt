@@ -1,5 +1,5 @@
 -- The log's turn is taken, or met in another session's hands, and given back.
-use Rattle.std.proofs.Common.{◌≡◌, ℕ, zero, suc, ◌+◌, ◌<◌, eqb, eq-eqb, ne_eqb, Bool, true, false, Some, List, set, refl, sym, ap, ◌∙◌, subst, inl, arith}
+use Rattle.std.proofs.Common.{◌≡◌, ℕ, zero, suc, ◌+◌, ◌<◌, ◌≤◌, eqb, eq-eqb, ne_eqb, Bool, true, false, Some, List, set, refl, sym, ap, ◌∙◌, subst, inl, arith}
 use Rattle.std.specs.List.{slice_get, Contains}
 use prog.Atomic.{either}
 use Rattle.vox_read.specs.Contents.{Content}
@@ -12,7 +12,7 @@ use Rattle.table_rule.specs.LogKnowing.{KnowsLog}
 use Rattle.table_rule.specs.LogTurning.{KeepsLogTurn}
 use Rattle.table_rule.specs.LogViews.{LogView}
 use Rattle.table_rule.specs.LogWords.{log_in}
-use Rattle.table_rule.specs.Rules.{KeepsRule, KeepsOn, table_state, MayWrite}
+use Rattle.table_rule.specs.Rules.{KeepsRule, KeepsOn, table_state, MayWrite, MayWriteAmong}
 use Rattle.table_rule.specs.Turning.{turn_of}
 use Rattle.table_rule.specs.Views.{SeatView}
 use Rattle.table_rule.proofs.LogPartA.{log_same_step, log_take_step, log_leave_step, not_log_turn}
@@ -132,11 +132,11 @@ module _ (p : Layout) (seat : ℕ) (v : SeatView) (models : List Content) (old :
       (log_leave_step p old views r.turns r.log.turn seat v at new (with_log v l) refl
       (log_sessions p models old new views seat v l r at 0 wrote knows) has wrote refl)
 
-  -- whoever has the turn is another session, of a small number
-  other_has : (other : ℕ) → v.log.turn ≡ false → old LogTurn ≡ suc other
-      → (other < 64) × ¬ Contains v.numbers other
-  other_has other idle is = (
-    (let named = r.log.turn.named in let few = r.turns.few in omega arith),
+  -- whoever has the turn is another session, one of those that have numbers
+  other_has : (sessions other : ℕ) → old Sessions ≤ sessions → v.log.turn ≡ false
+      → old LogTurn ≡ suc other → (other < sessions) × ¬ Contains v.numbers other
+  other_has sessions other few idle is = (
+    (let named = r.log.turn.named in omega arith),
     λ c. not_both (sym idle ∙ r.log.turn.back seat v at
         (record { number = other; carried = c; is = is ∙ one_more other })),
   )
@@ -147,19 +147,19 @@ module _ (p : Layout) (seat : ℕ) (v : SeatView) (models : List Content) (old :
       one_more : (n : ℕ) → suc n ≡ 1 + n
       one_more n = omega arith
 
-pub takes_log : (p : Layout) (seat : ℕ) (v : SeatView) (k : ℕ) → v.log.turn ≡ false
+pub takes_log : (sessions : ℕ) (p : Layout) (seat : ℕ) (v : SeatView) (k : ℕ) → v.log.turn ≡ false
     → Contains v.numbers k
-    → MayWrite p seat v LogTurn (λ n. either (eqb n 0) (1 + k) n) (Rests p)
+    → MayWriteAmong sessions p seat v LogTurn (λ n. either (eqb n 0) (1 + k) n) (Rests p)
     (λ n w. (n ≡ 0 → w ≡ log_turned v true)
-    × ((other : ℕ) → n ≡ suc other → (w ≡ met_busy v other) × (other < 64)
+    × ((other : ℕ) → n ≡ suc other → (w ≡ met_busy v other) × (other < sessions)
     × ¬ Contains v.numbers other))
-takes_log p seat v k idle mine models old views r at = go (old LogTurn) refl
+takes_log sessions p seat v k idle mine models old views r few at = go (old LogTurn) refl
   where
     go : (n : ℕ) → old LogTurn ≡ n
         → KeepsOn p models seat old views v LogTurn
         (either (eqb (old LogTurn) 0) (1 + k) (old LogTurn)) (Rests p)
         (λ w. (old LogTurn ≡ 0 → w ≡ log_turned v true)
-        × ((other : ℕ) → old LogTurn ≡ suc other → (w ≡ met_busy v other) × (other < 64)
+        × ((other : ℕ) → old LogTurn ≡ suc other → (w ≡ met_busy v other) × (other < sessions)
         × ¬ Contains v.numbers other))
     go zero free = record {
       view = log_turned v true;
@@ -177,7 +177,7 @@ takes_log p seat v k idle mine models old views r at = go (old LogTurn) refl
         (λ e. absurd (omega arith)),
         λ other e.
             (let same : number ≡ other = omega arith in
-            let h = other_has p seat v models old views r at other idle e in
+            let h = other_has p seat v models old views r at sessions other few idle e in
             (ap (met_busy v) same, h.0, h.1)),
       );
     }

@@ -16,18 +16,18 @@ use Rattle.core_laws.specs.LogEvents.{Appends, Forgets}
 use Rattle.table_rule.specs.LogTelling.{number_seen, SeesAll, IsShownRoot}
 use Rattle.table_rule.specs.LogTurning.{IsOfLog}
 use Rattle.table_rule.specs.LogWords.{mark_of_words}
-use Rattle.table_rule.specs.Rules.{MayWrite}
+use Rattle.table_rule.specs.Rules.{MayWrite, MayWriteAmong}
 use Rattle.table_rule.specs.Views.{SeatView, known_at}
 use Rattle.table_rule.specs.LogChanges.{log_turned, met_busy, log_knowing, with_seen_mark, with_found, HasNextWords, IsAppendable, Appended, Forgot, SawNext}
 
 -- the log's turn is exchanged for 1 plus a number of the seat where it is 0: the turn comes, or the
--- number of the other session that has it is noted
+-- number of the other session that has it is noted, which is one of those that have numbers
 abbrev pub LogTurnsAreTaken : Type 0
-LogTurnsAreTaken = (p : Layout) (seat : ℕ) (v : SeatView) (number : ℕ) → v.log.turn ≡ false
-    → Contains v.numbers number
-    → MayWrite p seat v LogTurn (λ n. either (eqb n 0) (1 + number) n) (Rests p)
+LogTurnsAreTaken = (sessions : ℕ) (p : Layout) (seat : ℕ) (v : SeatView) (number : ℕ)
+    → v.log.turn ≡ false → Contains v.numbers number
+    → MayWriteAmong sessions p seat v LogTurn (λ n. either (eqb n 0) (1 + number) n) (Rests p)
     (λ k w. (k ≡ 0 → w ≡ log_turned v true)
-    × ((other : ℕ) → k ≡ suc other → (w ≡ met_busy v other) × (other < 64)
+    × ((other : ℕ) → k ≡ suc other → (w ≡ met_busy v other) × (other < sessions)
     × ¬ Contains v.numbers other))
 
 -- 0 is stored in the log's turn, which the seat has

@@ -150,7 +150,7 @@ module _ (t : TableSeen) (s : PassSeen) (root : Option Name) (h : HoldsUniform t
   here : s.view.plan.side ≡ 2
   here = ap (λ p. p.side) h.of.plan ∙ h.side
 
-  pub made_act : (u : SeatView) (act : Act) → TakesLog s.view u → act ≡ uniform_act root
+  pub made_act : {made : ℕ} (u : SeatView) (act : Act) → TakesLog made s.view u → act ≡ uniform_act root
       → IsMadeNow u act root
   made_act u act takes is =
       let side = ap (λ (x : SeatView). x.plan.side) takes.is ∙ here in
@@ -405,7 +405,7 @@ few_left old mid left root none came same =
     let is = ap (λ (ts : List Tree). number_of_trees ts) same in omega arith
 
 -- the log's turn was taken, and no more is held
-pub few_taken : (v u : SeatView) → TakesLog v u → number_of_trees v.held ≤ 1
+pub few_taken : {made : ℕ} (v u : SeatView) → TakesLog made v u → number_of_trees v.held ≤ 1
     → number_of_trees u.held ≤ 4095
 few_taken v u takes few =
     let same : number_of_trees u.held ≡ number_of_trees v.held =

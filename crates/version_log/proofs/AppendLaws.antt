@@ -47,7 +47,7 @@ no_more [] le = refl
 no_more (x ∷ xs) le = absurd (omega arith)
 
 -- where the log is no longer than what was seen, the turn showed nothing new
-pub taken_same : (v t : SeatView) → TakesLog v t → number_seen t ≤ number_seen v
+pub taken_same : {made : ℕ} (v t : SeatView) → TakesLog made v t → number_seen t ≤ number_seen v
     → t ≡ in_turn v t.log.words t.log.busy
 taken_same v t takes le =
     let long : number_seen t ≡ length (v.log.seen.records ++ takes.more) =
@@ -137,7 +137,7 @@ next_words v words busy session line act ws now last number stands are =
 pub record MayGoOn (v u : SeatView) (p : Layout) (session line : ℕ) (act : Act)
     (root : Option Name) (ws : List ℕ) : Type 0 where
   pub from : u ≡ in_turn v u.log.words u.log.busy
-  pub busy : MetOthers v.log.busy u.log.busy
+  pub busy : MetOthers v.numbers v.log.busy u.log.busy
   pub plan : v.plan ≡ p
   pub number : v.numbers ≡ session ∷ []
   pub room : number_seen v < 65535
@@ -216,8 +216,8 @@ module _ (v u : SeatView) (p : Layout) (session line : ℕ) (act : Act) (root : 
               weighs = λ f. ap (λ ts. weight_of f m.made.holds.tree + weigh f ts) held
                   ∙ sym (a.weighs f);
             });
-        busy = others_on v.log.busy u.log.busy w.log.busy m.busy
-            (others_by u.log.busy w.log.busy busy);
+        busy = others_on v.numbers v.log.busy u.log.busy w.log.busy m.busy
+            (others_by v.numbers u.log.busy w.log.busy busy);
         is = a.is ∙ (λ i. (let z : SeatView = with_own v r (sym held i) (sym busy i) in z));
       }
 
@@ -238,7 +238,7 @@ appends_fewer v w line act root n made a =
     omega arith
 
 -- under the turn the log is as long as what was pinned, and so as what was seen
-seen_grows : (v t : SeatView) → TakesLog v t → number_seen v ≤ number_seen t
+seen_grows : {made : ℕ} (v t : SeatView) → TakesLog made v t → number_seen v ≤ number_seen t
 seen_grows v t takes =
     let long : number_seen t ≡ length (v.log.seen.records ++ takes.more) =
     ap (λ (x : SeatView). number_seen x) takes.is
@@ -316,7 +316,8 @@ next_goes_on v u z p session line at act root ws now last turn learns same here 
     subst (λ (x : SeatView). MayGoOn v x p session line act root ws) (sym same)
     (record {
       from = learned v u turn learns;
-      busy = others_by v.log.busy u.log.busy (ap (λ (x : SeatView). x.log.busy) learns.is);
+      busy = others_by v.numbers v.log.busy u.log.busy
+          (ap (λ (x : SeatView). x.log.busy) learns.is);
       plan = plan;
       number = number;
       room = omega (arith, here);
@@ -333,7 +334,7 @@ next_goes_on v u z p session line at act root ws now last turn learns same here 
 
 -- what was appended under the turn was appended to what was seen before it
 pub appends_before : (v t w : SeatView) (line : ℕ) (act : Act) (root : Option Name) (n : ℕ)
-    → t ≡ in_turn v t.log.words t.log.busy → MetOthers v.log.busy t.log.busy
+    → t ≡ in_turn v t.log.words t.log.busy → MetOthers v.numbers v.log.busy t.log.busy
     → AppendsNext t line act root n w → AppendsNext v line act root n w
 appends_before v t w line act root n from busy a =
     let b : AppendsNext (in_turn v t.log.words t.log.busy) line act root n w =
@@ -345,7 +346,7 @@ appends_before v t w line act root n from busy a =
       by = b.by;
       own = record { session = b.own.session; line_is = b.own.line_is; act_is = b.own.act_is };
       gone = b.gone;
-      busy = others_on v.log.busy t.log.busy w.log.busy busy b.busy;
+      busy = others_on v.numbers v.log.busy t.log.busy w.log.busy busy b.busy;
       is = b.is;
     }
 
@@ -375,27 +376,29 @@ pub idle_here : (w z : SeatView) → z ≡ w → HasNoTurn w → HasNoTurn z
 idle_here w z e idle = subst HasNoTurn (sym e) idle
 
 -- a commit under a turn that was taken, of the view before it
-pub commits_before : (v t w : SeatView) (moment line : ℕ) (act : Act) (root : Option Name) (n : ℕ)
-    → TakesLog v t → moment ≤ number_seen v → number_seen t ≡ moment
+pub commits_before : {sessions : ℕ} (v t w : SeatView) (moment line : ℕ) (act : Act)
+    (root : Option Name) (n : ℕ) → TakesLog sessions v t → moment ≤ number_seen v → number_seen t ≡ moment
     → AppendsNext t line act root n w → AppendsNext v line act root n w
 commits_before v t w moment line act root n takes known here a =
     appends_before v t w line act root n (taken_same v t takes (omega (arith, here, known)))
     (takes_looks v t takes).busy a
 
-pub commits_made : (v t : SeatView) (moment : ℕ) (act : Act) (root : Option Name) → TakesLog v t
+pub commits_made : {sessions : ℕ} (v t : SeatView) (moment : ℕ) (act : Act) (root : Option Name)
+    → TakesLog sessions v t
     → moment ≤ number_seen v → IsMadeOver v moment act root → number_seen t ≡ moment
     → IsMadeOver t moment act root
 commits_made v t moment act root takes known made here =
     made_taken v t moment act root (taken_same v t takes (omega (arith, here, known))) made
 
-pub base_known : (v t : SeatView) (moment : ℕ) → TakesLog v t → moment ≤ number_seen v
+pub base_known : {made : ℕ} (v t : SeatView) (moment : ℕ) → TakesLog made v t → moment ≤ number_seen v
     → number_seen t ≡ moment → number_seen v ≡ moment
 base_known v t moment takes known here =
     ap (λ (x : SeatView). number_seen x)
     (sym (taken_same v t takes (omega (arith, here, known)))) ∙ here
 
 -- whichever the answer is
-pub looks_before : (r : Result Committed CommitRefused) (v t w : SeatView) → TakesLog v t
+pub looks_before : {made : ℕ} (r : Result Committed CommitRefused) (v t w : SeatView)
+    → TakesLog made v t
     → IfErr r (λ e. LooksOn t w) → IfErr r (λ e. LooksOn v w)
 looks_before (Ok n) v t w takes looks = tt
 looks_before (Err e) v t w takes looks = looks_on v t w (takes_looks v t takes) looks
@@ -403,7 +406,7 @@ looks_before (Err e) v t w takes looks = looks_on v t w (takes_looks v t takes) 
 -- what is refused under the turn is refused of a try
 pub try_refused : (base : Pinned) (root : Option Name) (e : CommitRefused) (p : TableSeen)
     (v : SeatView) (s : PassSeen) (w : SeatView) → TakesAtOnce p v s → w.log.busy ≡ s.view.log.busy
-    → LooksOn s.view w → RefusesCommit base root e w → RefusesTry base root (tried e) v w
+    → LooksOn s.view w → RefusesCommit base root e w → RefusesTry p.made base root (tried e) v w
 try_refused base root (LogFull back) p v s w came nobody looks refused =
     record {
       looks = looks_on v s.view w (takes_looks v s.view came.takes) looks;

@@ -129,8 +129,8 @@ all_alone (Ok c) v w keep line act root made = commits_alone v w keep line act r
 all_alone (Err e) v w keep line act root made = tt
 
 -- a commit under a turn that was taken, of the view before it
-pub falls_before : (v t w : SeatView) (moment keep line : ℕ) (act : Act) (root : Option Name)
-    (c : Committed) → TakesLog v t → moment ≤ number_seen v → number_seen t ≡ moment
+pub falls_before : {made : ℕ} (v t w : SeatView) (moment keep line : ℕ) (act : Act)
+    (root : Option Name) (c : Committed) → TakesLog made v t → moment ≤ number_seen v → number_seen t ≡ moment
     → CommitsNext t keep line act root c w → CommitsNext v keep line act root c w
 falls_before v t w moment keep line act root c takes known here made = record {
   behind = made.behind;
@@ -138,8 +138,8 @@ falls_before v t w moment keep line act root c takes known here made = record {
   falls = made.falls;
 }
 
-pub all_before : (r : Result Committed CommitRefused) (v t w : SeatView) (moment keep line : ℕ)
-    (act : Act) (root : Option Name) → TakesLog v t → moment ≤ number_seen v
+pub all_before : {made : ℕ} (r : Result Committed CommitRefused) (v t w : SeatView)
+    (moment keep line : ℕ) (act : Act) (root : Option Name) → TakesLog made v t → moment ≤ number_seen v
     → IfOk r (λ c. number_seen t ≡ moment) → IfOk r (λ c. CommitsNext t keep line act root c w)
     → IfOk r (λ c. CommitsNext v keep line act root c w)
 all_before (Ok c) v t w moment keep line act root takes known here made =

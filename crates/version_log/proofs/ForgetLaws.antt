@@ -73,8 +73,8 @@ module _ (v m w : SeatView) (n line at session : ℕ) (root : Option Name) (look
           numbers = ap (λ (x : SeatView). x.numbers) f.is ∙ looks.session.numbers;
         };
         records = ap (λ (x : SeatView). x.log.records) f.is ∙ looks.records;
-        busy = others_on v.log.busy m.log.busy w.log.busy looks.busy
-            (others_by m.log.busy w.log.busy (ap (λ (x : SeatView). x.log.busy) f.is));
+        busy = others_on v.numbers v.log.busy m.log.busy w.log.busy looks.busy
+            (others_by v.numbers m.log.busy w.log.busy (ap (λ (x : SeatView). x.log.busy) f.is));
         made = ap (λ (x : SeatView). x.made) f.is ∙ looks.made;
         met = ap (λ (x : SeatView). x.met) f.is ∙ looks.met;
       }
@@ -87,12 +87,12 @@ module _ (v m w : SeatView) (n line at session : ℕ) (root : Option Name) (look
       }
 
 -- under the turn the version was found without a mark
-pub looked_open : (v t u m : SeatView) (n : ℕ) → TakesLog v t → LearnsLog t u → FoundOpen u n m
+pub looked_open : {made : ℕ} (v t u m : SeatView) (n : ℕ) → TakesLog made v t → LearnsLog t u → FoundOpen u n m
     → LooksOn v m
 looked_open v t u m n takes learns is_open =
     looks_on v u m (begun_looks v t u takes learns) (open_looks u n m is_open)
 
-pub looked_held : (v t u m : SeatView) (n : ℕ) → TakesLog v t → LearnsLog t u → FoundOpen u n m
+pub looked_held : {made : ℕ} (v t u m : SeatView) (n : ℕ) → TakesLog made v t → LearnsLog t u → FoundOpen u n m
     → m.held ≡ v.held
 looked_held v t u m n takes learns is_open =
     ap (λ (x : SeatView). x.held) is_open.is ∙ ap (λ (x : SeatView). x.held) learns.is

@@ -1,12 +1,12 @@
 -- What calls leave of a view, chained.
-use Rattle.std.proofs.Common.{◌≡◌, ◌<◌, ◌≤◌, ℕ, length, inl, inr, arith, Option, Some, None, List, [], ◌∷◌, ◌++◌, refl, sym, ◌∙◌, ap, subst, append_assoc}
+use Rattle.std.proofs.Common.{◌≡◌, ◌<◌, ◌≤◌, ℕ, length, ⊎_elim, inl, inr, arith, Option, Some, None, List, [], ◌∷◌, ◌++◌, refl, sym, ◌∙◌, ap, subst, append_assoc}
 use Rattle.std.proofs.lemmas.List.{append-nil, length-append}
 use Rattle.history_model.specs.declared.histories.Record.{Record}
 use Rattle.table_rule.specs.LogChanges.{marks_with}
 use Rattle.table_rule.proofs.MarkLists.{with_has}
 use Rattle.history_model.specs.declared.histories.Mark.{Mark}
 use Rattle.history_model.specs.Logs.{Log}
-use Rattle.table_rule.proofs.Containing.{contains_more}
+use Rattle.table_rule.proofs.Containing.{contains_more, contains_parts}
 use Rattle.table_rule.specs.LogKnowing.{IsPrefix}
 use Rattle.table_rule.specs.LogViews.{LogView}
 use Rattle.retain.specs.Listing.{Found}
@@ -30,23 +30,25 @@ begins_on a b c f g =
       marks = λ m here. g.marks m (f.marks m here);
     }
 
-pub others_itself : (ns : List ℕ) → MetOthers ns ns
-others_itself ns = record { met = []; is = refl }
+pub others_by : (own old new : List ℕ) → new ≡ old → MetOthers own old new
+others_by own old new e =
+    record { met = []; others = λ n c. absurd (let k = c.1 in omega arith); is = e }
 
-pub others_by : (old new : List ℕ) → new ≡ old → MetOthers old new
-others_by old new e = record { met = []; is = e }
+pub others_itself : (own ns : List ℕ) → MetOthers own ns ns
+others_itself own ns = others_by own ns ns refl
 
-pub others_on : (a b c : List ℕ) → MetOthers a b → MetOthers b c → MetOthers a c
-others_on a b c f g =
+pub others_on : (own a b c : List ℕ) → MetOthers own a b → MetOthers own b c → MetOthers own a c
+others_on own a b c f g =
     record {
       met = g.met ++ f.met;
+      others = λ n h. ⊎_elim (g.others n) (f.others n) (contains_parts g.met f.met n h);
       is = g.is ∙ ap (λ ns. g.met ++ ns) f.is ∙ sym (append_assoc g.met f.met a);
     }
 
 -- the same session, and all that a call leaves of the view, but for its log
 looks_by : (v w : SeatView) → SameSession v w → KnowsMore v w → w.log.records ≡ v.log.records
-    → w.log.marks ≡ v.log.marks → MetOthers v.log.busy w.log.busy → w.made ≡ v.made → w.met ≡ v.met
-    → LooksOn v w
+    → w.log.marks ≡ v.log.marks → MetOthers v.numbers v.log.busy w.log.busy
+    → w.made ≡ v.made → w.met ≡ v.met → LooksOn v w
 looks_by v w session sees records marks busy made met =
     record {
       session = session;
@@ -71,7 +73,7 @@ looks_itself v =
       taken = refl;
       found = record { each = λ f c. c };
     })
-    refl refl (others_itself v.log.busy) refl refl
+    refl refl (others_itself v.numbers v.log.busy) refl refl
 
 pub looks_on : (u v w : SeatView) → LooksOn u v → LooksOn v w → LooksOn u w
 looks_on u v w f g =
@@ -91,14 +93,15 @@ looks_on u v w f g =
       };
       records = g.records ∙ f.records;
       marks = g.marks ∙ f.marks;
-      busy = others_on u.log.busy v.log.busy w.log.busy f.busy g.busy;
+      busy = others_on u.numbers u.log.busy v.log.busy w.log.busy f.busy
+          (subst (λ (ns : List ℕ). MetOthers ns v.log.busy w.log.busy) f.session.numbers g.busy);
       made = g.made ∙ f.made;
       met = g.met ∙ f.met;
     }
 
 -- the same view, with another view of the log that has the same lists
 looks_log : (v : SeatView) (l : LogView) → KnowsMore v (with_log v l)
-    → l.records ≡ v.log.records → l.marks ≡ v.log.marks → MetOthers v.log.busy l.busy
+    → l.records ≡ v.log.records → l.marks ≡ v.log.marks → MetOthers v.numbers v.log.busy l.busy
     → LooksOn v (with_log v l)
 looks_log v l sees records marks busy =
     looks_by v (with_log v l)
@@ -150,7 +153,7 @@ found_more f fs = record { each = λ x c. contains_more f fs x c }
 along : (v w z : SeatView) → w ≡ z → LooksOn v z → LooksOn v w
 along v w z e looks = subst (λ (x : SeatView). LooksOn v x) (sym e) looks
 
-pub takes_looks : (v w : SeatView) → TakesLog v w → LooksOn v w
+pub takes_looks : {made : ℕ} (v w : SeatView) → TakesLog made v w → LooksOn v w
 takes_looks v w t =
     along v w _ t.is
     (looks_log v _
@@ -161,13 +164,13 @@ takes_looks v w t =
       taken = refl;
       found = found_itself v.log.found;
     })
-    refl refl (record { met = t.met; is = refl }))
+    refl refl (record { met = t.met; others = λ n c. (t.others.each n c).1; is = refl }))
 
 pub learns_looks : (v w : SeatView) → LearnsLog v w → LooksOn v w
 learns_looks v w l =
     along v w _ l.is
     (looks_log v _ (knows_found v _ refl refl (found_itself v.log.found)) refl refl
-    (others_itself v.log.busy))
+    (others_itself v.numbers v.log.busy))
 
 pub open_looks : (v : SeatView) (n : ℕ) (w : SeatView) → FoundOpen v n w → LooksOn v w
 open_looks v n w f =
@@ -175,7 +178,7 @@ open_looks v n w f =
     (looks_log v _
     (knows_found v _ refl refl
     (found_more (record { version = n; at = number_seen v }) v.log.found)) refl refl
-    (others_itself v.log.busy))
+    (others_itself v.numbers v.log.busy))
 
 pub mark_looks : (v : SeatView) (n : ℕ) (m : Mark) (w : SeatView) → FoundMark v n m w → LooksOn v w
 mark_looks v n m w f =
@@ -202,7 +205,7 @@ mark_looks v n m w f =
           (sym (ap (λ (x : SeatView). x.log.found) f.is)) (found_itself v.log.found);
     })
     (ap (λ (x : SeatView). x.log.records) f.is) (ap (λ (x : SeatView). x.log.marks) f.is)
-    (others_by v.log.busy w.log.busy (ap (λ (x : SeatView). x.log.busy) f.is))
+    (others_by v.numbers v.log.busy w.log.busy (ap (λ (x : SeatView). x.log.busy) f.is))
     (ap (λ (x : SeatView). x.made) f.is)
     (ap (λ (x : SeatView). x.met) f.is)
 
@@ -219,23 +222,23 @@ shares_looks v w o =
           (found_itself v.log.found);
     })
     (ap (λ (l : LogView). l.records) o.log) (ap (λ (l : LogView). l.marks) o.log)
-    (others_by v.log.busy w.log.busy (ap (λ (l : LogView). l.busy) o.log)) o.made o.met
+    (others_by v.numbers v.log.busy w.log.busy (ap (λ (l : LogView). l.busy) o.log)) o.made o.met
 
 pub left_looks : (v w : SeatView) → w ≡ log_left v → LooksOn v w
 left_looks v w e =
     along v w (log_left v) e
     (looks_log v _ (knows_found v _ refl refl (found_itself v.log.found)) refl refl
-    (others_itself v.log.busy))
+    (others_itself v.numbers v.log.busy))
 
 -- and with the turn no less is seen than without it
 pub back_looks : (v : SeatView) → LooksOn (log_left v) v
 back_looks v =
     looks_log (log_left v) v.log
     (knows_found (log_left v) v.log refl refl (found_itself v.log.found)) refl refl
-    (others_itself v.log.busy)
+    (others_itself v.numbers v.log.busy)
 
 -- the turn came and the length was read
-pub begun_looks : (v w z : SeatView) → TakesLog v w → LearnsLog w z → LooksOn v z
+pub begun_looks : {made : ℕ} (v w z : SeatView) → TakesLog made v w → LearnsLog w z → LooksOn v z
 begun_looks v w z t l = looks_on v w z (takes_looks v w t) (learns_looks w z l)
 
 -- and the turn went back, as a view tells that is left

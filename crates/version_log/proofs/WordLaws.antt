@@ -214,6 +214,27 @@ kept_known records now act behind a b is same knows =
     (subst (λ (rs : List Record). KnowsNext rs act (keep_for act behind a)) (sym same)
     (kept_by records act behind a knows))
 
+-- what was kept for any act stays so, or is what was found of that act
+kept_beside : (records : List Record) (act : Act) (behind : Option Standing) (a : Ahead)
+    → IfSome behind (StandsBehind records act) → (other : Act) → KnowsNext records other a
+    → KnowsNext records other (keep_for act behind a)
+kept_beside records Undo behind a found Undo knows = found
+kept_beside records Undo behind a found Redo knows = knows
+kept_beside records Undo behind a found edit knows = tt
+kept_beside records Redo behind a found Redo knows = found
+kept_beside records Redo behind a found Undo knows = knows
+kept_beside records Redo behind a found edit knows = tt
+kept_beside records edit behind a found other knows = knows
+
+pub stays_kept : (s t : Sure) (act : Act) (behind : Option Standing)
+    → t.ahead ≡ keep_for act behind s.ahead
+    → t.pass.now.view.log.seen.records ≡ s.pass.now.view.log.seen.records
+    → IfSome behind (StandsBehind s.pass.now.view.log.seen.records act) → StaysAhead s t
+stays_kept s t act behind is same found other knows =
+    subst (λ (a : Ahead). KnowsNext t.pass.now.view.log.seen.records other a) (sym is)
+    (subst (λ (rs : List Record). KnowsNext rs other (keep_for act behind s.ahead)) (sym same)
+    (kept_beside s.pass.now.view.log.seen.records act behind s.ahead found other knows))
+
 -- for an edit nothing needs to be kept
 pub edit_knows : (records : List Record) (act : Act) (a : Ahead) → is_edit act ≡ true
     → KnowsNext records act a

@@ -51,7 +51,7 @@ pub record AppendsNext (v : SeatView) (line : ℕ) (act : Act) (root : Option Na
   pub by : Record
   pub own : IsOwnRecord v line act by
   pub gone : GoesBack root v.held w.held
-  pub busy : MetOthers v.log.busy w.log.busy
+  pub busy : MetOthers v.numbers v.log.busy w.log.busy
   pub is : w ≡ with_own v by w.held w.log.busy
 
 -- why nothing was committed, by the log that is seen now: it is full, or it is longer than the base

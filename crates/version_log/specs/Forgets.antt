@@ -38,7 +38,7 @@ pub record ForgetsVersion (v : SeatView) (version line : ℕ) (f : Forgot)
   pub sees : KnowsMore v w
   pub session : SameSession v w
   pub records : w.log.records ≡ v.log.records
-  pub busy : MetOthers v.log.busy w.log.busy
+  pub busy : MetOthers v.numbers v.log.busy w.log.busy
   pub made : w.made ≡ v.made
   pub met : w.met ≡ v.met
 

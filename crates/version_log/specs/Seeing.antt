@@ -27,9 +27,10 @@ pub record KnowsMore (v w : SeatView) : Type 0 where
   pub taken : w.log.taken ≡ v.log.taken
   pub found : FoundStays v.log.found w.log.found
 
--- other sessions may have been met that had the log's turn
-pub record MetOthers (old new : List ℕ) : Type 0 where
+-- other sessions than these may have been met that had the log's turn
+pub record MetOthers (own old new : List ℕ) : Type 0 where
   pub met : List ℕ
+  pub others : (n : ℕ) → Contains met n → ¬ Contains own n
   pub is : new ≡ met ++ old
 
 -- the same pass of the same session; what it made and met, and its own records and marks
@@ -39,7 +40,7 @@ pub record LooksOn (v w : SeatView) : Type 0 where
   pub sees : KnowsMore v w
   pub records : w.log.records ≡ v.log.records
   pub marks : w.log.marks ≡ v.log.marks
-  pub busy : MetOthers v.log.busy w.log.busy
+  pub busy : MetOthers v.numbers v.log.busy w.log.busy
   pub made : w.made ≡ v.made
   pub met : w.met ≡ v.met
 

@@ -1,5 +1,6 @@
 -- What a commit that doesn't wait answers.
-use Rattle.std.specs.Prelude.{◌≡◌, Option}
+use Rattle.std.specs.Prelude.{◌≡◌, ℕ, Option}
+use Rattle.std.specs.List.{Contains}
 use Rattle.node_words.specs.declared.shapes.names.Name.{Name}
 use Rattle.table_rule.specs.Views.{SeatView}
 use Rattle.node_table.specs.LogTurns.{HasLogTurn, IsBusy, TakesLog}
@@ -15,7 +16,7 @@ use Rattle.version_log.specs.Seeing.{LooksOn}
 -- the log's turn came, and no other session was met that has it
 pub record TakesAtOnce (t : TableSeen) (v : SeatView) (s : PassSeen) : Type 0 where
   pub turn : HasLogTurn t s
-  pub takes : TakesLog v s.view
+  pub takes : TakesLog t.made v s.view
   pub nobody : s.view.log.busy ≡ v.log.busy
 
 -- the same refusal, as one of a try
@@ -30,9 +31,14 @@ pub record RefusesAtOnce (base : Pinned) (root : Option Name) (e : CommitRefused
   pub nobody : w.log.busy ≡ v.log.busy
   pub refused : RefusesCommit base root e w
 
--- or the number of another session joined those that were met with the log's turn, and nothing else
--- changed
-abbrev pub RefusesTry : Pinned → Option Name → TryRefused → SeatView → SeatView → Type 0
-RefusesTry base root (tries.LogFull back) v w = RefusesAtOnce base root (LogFull back) v w
-RefusesTry base root (tries.Stale now back) v w = RefusesAtOnce base root (Stale now back) v w
-RefusesTry base root (tries.Busy back) v w = (back ≡ root) × IsBusy v w
+-- or the number of another session, one of so many, joined those that were met with the log's turn,
+-- and nothing else changed
+abbrev pub RefusesTry : ℕ → Pinned → Option Name → TryRefused → SeatView → SeatView → Type 0
+RefusesTry made base root (tries.LogFull back) v w = RefusesAtOnce base root (LogFull back) v w
+RefusesTry made base root (tries.Stale now back) v w = RefusesAtOnce base root (Stale now back) v w
+RefusesTry made base root (tries.Busy back) v w = (back ≡ root) × IsBusy made v w
+
+-- in a table of one session, whose number is 0, nobody is told that another one has the turn
+abbrev pub AloneIsNeverBusy : Type 0
+AloneIsNeverBusy = (base : Pinned) (root back : Option Name) (v w : SeatView)
+    → Contains v.numbers 0 → RefusesTry 1 base root (tries.Busy back) v w → ⊥

@@ -56,7 +56,7 @@ pub use forgets::forget;
 pub use forgetting::Forgot;
 pub use heads::head;
 pub use keeping::keep_version;
-pub use laws::pins_stay_and_tell;
+pub use laws::{pins_stay_and_tell, sessions_alone_are_never_busy};
 pub use looking::{Lead, mark, target};
 pub use pinned::Pinned;
 pub use pins::pin;

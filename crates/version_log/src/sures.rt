@@ -102,6 +102,7 @@ impl<'a> Sure<'a> {
         ensures learns { LearnsLog self.old.pass.now.view self.new.pass.now.view }
         ensures known { KnowsNext self.new.pass.now.view.log.seen.records act.now
             self.new.ahead }
+        ensures ahead { StaysAhead self.old self.new }
     {
         let behind = self.look_behind(act);
         self.ahead = self.ahead.keep_for(act, behind);

@@ -16,7 +16,7 @@ pub fn sure<'a, R: Wait>(rt: &R, table: &'a NodeTable, pass: &'a mut Pass) -> Su
     ensures pass { result.pass.ghost_name ≡ pass.entry.ghost_name }
     ensures table { result.table.now ≡ table.now }
     ensures turn { HasLogTurn table.now result.pass.now }
-    ensures takes { TakesLog pass.old.view result.pass.now.view }
+    ensures takes { TakesLog table.now.made pass.old.view result.pass.now.view }
     ensures nothing { result.ahead ≡ nothing_kept }
 {
     take(rt, table, pass);
@@ -32,7 +32,7 @@ pub fn take<R: Wait>(rt: &R, table: &NodeTable, pass: &mut Pass)
     requires of { BelongsTo table.now pass.old }
     requires idle { HasNoTurn pass.old.view }
     ensures turn { HasLogTurn table.now pass.new }
-    ensures takes { TakesLog pass.old.view pass.new.view }
+    ensures takes { TakesLog table.now.made pass.old.view pass.new.view }
 {
     let turn = table.log_turn(rt, pass);
     turn.rest();

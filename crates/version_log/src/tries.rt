@@ -25,7 +25,7 @@ fn try_take(table: &NodeTable, pass: &mut Pass) -> bool
     requires idle { HasNoTurn pass.old.view }
     ensures of { BelongsTo table.now pass.new }
     ensures taken { result ≡ true → TakesAtOnce table.now pass.old.view pass.new }
-    ensures busy { result ≡ false → IsBusy pass.old.view pass.new.view }
+    ensures busy { result ≡ false → IsBusy table.now.made pass.old.view pass.new.view }
 {
     match pass.try_log_turn(table) {
         Some(turn) => {
@@ -72,7 +72,7 @@ pub fn try_commit(
     ensures alone { IfOk result
         (λ c. keep ≡ 0 → CommitsAlone pass.old.view line act.now root c pass.new.view) }
     ensures refused { IfErr result
-        (λ e. RefusesTry base.now root e pass.old.view pass.new.view) }
+        (λ e. RefusesTry table.now.made base.now root e pass.old.view pass.new.view) }
     ensures kept { IfErr result (λ e. pass.new.view.held ≡ pass.old.view.held) }
     ensures met_nobody { IfOk result (λ c. pass.new.view.log.busy ≡ pass.old.view.log.busy) }
 {

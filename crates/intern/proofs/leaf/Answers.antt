@@ -15,6 +15,8 @@ use Rattle.node_table.specs.Views.{SeatView}
 use Rattle.node_table.specs.Changes.{HasKeyWords, PassesBelow}
 use Rattle.node_table.specs.declared.places.Place.TheVariants.{NoRoom}
 use Rattle.node_table.specs.Acts.{MayAdd}
+use Rattle.node_table.specs.Learning.{IsKnownLive}
+use Rattle.node_table.specs.Learning.IsKnownLive.{keyed}
 use Rattle.node_table.specs.Seen.{TableSeen, bucket_named}
 use Rattle.node_table.proofs.Answering.{answers_keep, learns_keep}
 use Rattle.intern.specs.Leaves.{LeafCame, LeafRefused}
@@ -30,6 +32,14 @@ turn-turn-requires-clause-there g c =
     let low =
     c.buckets.ensures.plan.side_low in let below = c.bucket_of-bucket.ensures.below in let value = c.buckets.ensures.value in
     (omega arith, omega arith)
+
+pub raise-requires-clause-live : goal.raise-requires-clause-live
+raise-requires-clause-live g c =
+    let v = c.find.new.self.pass.now.view in let same = c.find.ensures.same in
+    subst (λ (x : ℕ × ℕ). IsKnownLive v (named x.0 x.1 c.in-At.slot))
+    (λ i. (sym same.1 i, sym same.2 i))
+    (keyed (Leaf c.args.bits) (record { row = λ _. Gone; are_held = no_children v.held })
+    c.in-At.ensures.place.shows)
 
 pub publish-requires-clause-children : goal.publish-requires-clause-children
 publish-requires-clause-children g c = leaf_children _ c.args.bits c.no_children.ensures

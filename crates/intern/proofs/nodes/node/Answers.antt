@@ -1,8 +1,9 @@
-use Rattle.std.proofs.Common.{rules, ◌≡◌, ◌<◌, ◌∙◌, ℕ, List, length, refl, sym, ap, subst, arith}
+use Rattle.std.proofs.Common.{rules, ◌≡◌, ◌<◌, ◌∙◌, ℕ, List, Option, length, refl, sym, ap, subst, arith}
 use Rattle.std.specs.Prelude.{slice_index}
 use Rattle.node_words.specs.declared.shapes.names.Name.{Name}
 use Rattle.node_words.specs.declared.keys.Key.TheVariants.{Node}
-use Rattle.node_words.specs.Held.{AreHeld}
+use Rattle.node_words.specs.Held.{AreHeld, HoldsChildren}
+use Rattle.node_words.specs.shapes.Tree.{Tree}
 use Rattle.node_words.specs.Keys.{bucket_of_key}
 use Rattle.node_words.specs.Plans.{buckets_at}
 use Rattle.core_laws.specs.places.Names.{named}
@@ -10,6 +11,8 @@ use Rattle.core_laws.specs.places.Spots.{Spot}
 use Rattle.node_table.specs.Views.{SeatView}
 use Rattle.node_table.specs.Changes.{HasKeyWords, PassesBelow}
 use Rattle.node_table.proofs.Answering.{answers_keep, learns_keep}
+use Rattle.node_table.specs.Learning.{IsKnownLive}
+use Rattle.node_table.specs.Learning.IsKnownLive.{keyed}
 use Rattle.node_table.specs.Seen.{bucket_named}
 use Rattle.node_table.specs.declared.places.Place.TheVariants.{NoRoom}
 use Rattle.intern.proofs.NodeLaws.{asks, node_searched, kept_now, room_now, shared_now, added_now, refused_now, absent, met_node, node_sought, is_bucket, low_bucket, passes_here}
@@ -18,6 +21,20 @@ use Rattle.intern.proofs.nodes.node.Goals as goal
 pub buckets-requires : goal.buckets-requires
 buckets-requires g c =
     let high = c.plan-plan.ensures.plan.side_high in let level = c.requires.level.1 in omega arith
+
+pub raise-share-requires-clause-live : goal.raise-share-requires-clause-live
+raise-share-requires-clause-live g c =
+    let f = c.find.new.self in let a = c.in-At.ensures.place in let same = c.find.ensures.same in
+    let names = c.names_of-names.result in
+    let held : f.pass.now.view.held ≡ c.args.pass.now.view.held =
+    ap (λ (x : SeatView). x.held) a.learns.else_is
+    ∙ ap (λ (x : SeatView). x.held) c.turn-turn.ensures.view in
+    let holds : HoldsChildren c.args.pass.now.view.held names =
+    subst (λ (l : List (Option Name)). HoldsChildren c.args.pass.now.view.held l)
+    (sym c.names_of-names.ensures) c.requires.held in
+    subst (λ (x : ℕ × ℕ). IsKnownLive f.pass.now.view (named x.0 x.1 c.in-At.slot))
+    (λ i. (sym same.1 i, sym same.2 i))
+    (keyed (Node names) (subst (λ (l : List Tree). HoldsChildren l names) (sym held) holds) a.shows)
 
 pub give_row-requires-clause-held : goal.give_row-requires-clause-held
 give_row-requires-clause-held g c =

@@ -2,7 +2,7 @@ use Rattle.std.proofs.Common.{◌≤◌, Option, IfSome, subst}
 use Rattle.table_rule.specs.LogTelling.{number_seen}
 use Rattle.undo.specs.declared.standing.Standing.{Standing}
 use Rattle.undo.specs.Standings.{version_of}
-use Rattle.version_log.proofs.WordLaws.{led_there}
+use Rattle.version_log.proofs.WordLaws.{led_there, stays_kept}
 use Rattle.version_log.proofs.sures.Sure.target.Goals as goal
 
 pub returns-in-Some-clause-there : goal.returns-in-Some-clause-there
