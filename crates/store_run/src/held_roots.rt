@@ -6,7 +6,6 @@ ghost use Rattle.store_run.specs.Kept.{log_of, moment_of, plan_of, mark_in, AreS
 ghost use Rattle.store_run.specs.Marked.{HoldsKept};
 ghost use Rattle.store_run.specs.Taken.{AreTakenRoots};
 
-use crate::pins::put_away;
 use crate::stored_versions::Versions;
 use history_model::Mark;
 use node_words::Share;
@@ -68,7 +67,9 @@ impl HeldRoots {
         let mut roots = roots.into_iter();
         while let Some(item) = roots.next() {
             let (_, root) = item;
-            let _name = put_away(root);
+            if let Some(share) = root {
+                let _name = share.spend();
+            }
         }
         roots.destroy_empty();
     }
