@@ -2,8 +2,8 @@
 # Runs the tests of scripts that meet, and of scripts beside each other, many times in a row:
 # bench/repeat-gate-tests.sh [TIMES], 100 where it is left out.
 #
-# It proves and builds the test program of `tests_threads` once, or takes the one that THREADS_TESTS names. Each test is a
-# process of its own with 60 seconds. It prints the load, and for each test how often it passed, with the least and the
+# It proves and builds the test program of `tests_runs` once, or takes the one that THREADS_TESTS names. Each test of its
+# module `threads` is a process of its own with 60 seconds. It prints the load, and for each test how often it passed, with the least and the
 # greatest time; it ends with status 1 where one failed, and prints what that one said.
 set -eu
 here=$(cd "$(dirname "$0")" && pwd)
@@ -11,15 +11,15 @@ times=${1:-100}
 kit=$(dirname "$(rt doc)")
 program=${THREADS_TESTS:-}
 if [ -z "$program" ]; then
-    program=$here/../crates/tests_threads/out/tests_threads_tests
-    (cd "$here/../crates/tests_threads" && rt test > /dev/null)
+    program=$here/../crates/tests_runs/out/tests_runs_tests
+    (cd "$here/../crates/tests_runs" && rt test > /dev/null)
 fi
 program=$(realpath "$program")
 work=$(mktemp -d)
 trap 'rm -rf "$work"' EXIT
 cd "$work"
 
-"$kit/bin/rattle-test" --seconds 60 "$program" > first || { cat first; exit 1; }
+"$kit/bin/rattle-test" --seconds 60 --filter threads:: "$program" > first || { cat first; exit 1; }
 mapfile -t tests < <(sed -n 's/^test \(.*\) \.\.\. ok$/\1/p' first)
 [ ${#tests[@]} -gt 0 ] || { echo "no test in $program" >&2; exit 1; }
 echo "load at the start: $(cut -d' ' -f1-3 /proc/loadavg)"

@@ -50,6 +50,16 @@ const RUNS: &[(&str, &str, &str, &str, &str)] = &[
         FALLEN,
         "audit --keep 2 one.vox j s",
     ),
+    // of cells with tints: tint 5, tint 2, tint 5 again, and tint 2 again, of which two are held
+    (
+        "run --colours --side 8 --keep 2 --journal j one.vox s",
+        "scripts 1 records 4 marks 3 nodes 7\n",
+        "fill 0 0 0 1 1 1 5\nfill 0 0 0 1 1 1 2\nundo\nundo\nredo\nat 0 colour 0 0 0\n\
+         colour 0 0 0\nat 3 colour 0 0 0\n",
+        "1 @1 ok\n2 @2 ok\n3 @3 ok\n4 @3 forgotten 0\n5 @4 ok\n6 @4 forgotten 0\n\
+         7 @4 colour 2\n8 @4 colour 5\n",
+        "audit --keep 2 one.vox j s",
+    ),
 ];
 
 // Of a run that holds its last two versions alone.
@@ -68,16 +78,10 @@ const FALLEN_JOURNAL: &str =
 fn a_run_is_audited_yes(rt: HostRuntime) -> Result<(), Fail> {
     for &(run, printed, script, transcript, audit) in RUNS {
         let mut shelf = shelf_with(rt.alloc(), script.as_bytes())?;
-        assert!(rt;
-            ends(&rt, rt.alloc(), run, &mut shelf, 0, printed)?,
-            "at {run}"
-        );
-        assert!(rt; has(&shelf, "s.out", Some(transcript)), "at {run}");
-        assert!(rt;
-            ends(&rt, rt.alloc(), audit, &mut shelf, 0, "yes\n")?,
-            "at {audit}"
-        );
-        assert!(rt; has(&shelf, "s.out", Some(transcript)), "at {audit}");
+        ends(&rt, rt.alloc(), run, &mut shelf, 0, printed)?;
+        has(&shelf, "s.out", transcript)?;
+        ends(&rt, rt.alloc(), audit, &mut shelf, 0, "yes\n")?;
+        has(&shelf, "s.out", transcript)?;
     }
     Ok(())
 }
@@ -97,10 +101,7 @@ const HELD: &[(&str, &str)] = &[
 fn an_audit_is_of_as_many_last_versions(rt: HostRuntime) -> Result<(), Fail> {
     let mut shelf = shelf(rt.alloc(), FALLING, FALLEN_JOURNAL, FALLEN)?;
     for &(line, printed) in HELD {
-        assert!(rt;
-            ends(&rt, rt.alloc(), line, &mut shelf, 0, printed)?,
-            "at {line}"
-        );
+        ends(&rt, rt.alloc(), line, &mut shelf, 0, printed)?;
     }
     Ok(())
 }
@@ -159,9 +160,71 @@ fn a_changed_text_is_seen(rt: HostRuntime) -> Result<(), Fail> {
     for &(journal, transcript, status, printed) in CHANGED {
         let mut shelf = shelf(rt.alloc(), SCRIPT, journal, transcript)?;
         let line = "audit one.vox j s";
-        let ended = ends(&rt, rt.alloc(), line, &mut shelf, status, printed)?;
-        let whole = has(&shelf, "j", Some(journal)) && has(&shelf, "s.out", Some(transcript));
-        assert!(rt; ended && whole, "at {transcript}");
+        ends(&rt, rt.alloc(), line, &mut shelf, status, printed)?;
+        has(&shelf, "j", journal)?;
+        has(&shelf, "s.out", transcript)?;
+    }
+    Ok(())
+}
+
+// Of two scripts, the second of which sets a cell and counts behind the first.
+const FIRST: &str = "fill 0 0 0 2 1 1\nerase 1 0 0 1 1 1\ncount 0 0 0 8 8 8\n";
+
+const FIRST_OUT: &str = "1 @1 ok\n2 @2 ok\n3 @2 count 1\n";
+
+const SECOND: &str = "stamp 0 7 7 7\ncount 0 0 0 8 8 8\n";
+
+const SECOND_OUT: &str = "1 @3 ok\n2 @3 count 2\n";
+
+const BOTH_JOURNAL: &str =
+    "voxdag journal 1\nside 8\n1 0 1 fill 0 0 0 2 1 1\n2 0 2 erase 1 0 0 1 1 1\n\
+     3 1 1 stamp 0 7 7 7\nend\n";
+
+// A line over the two scripts `s` and `t`, over `hed` and `fine`, of which the first is a script
+// with a fault and the second has a transcript with one, and how it ends.
+const SEVERAL: &[(&str, u8, &str)] = &[
+    ("audit one.vox j s t", 0, "yes\n"),
+    ("audit --buckets 4 one.vox j s t", 0, "yes\n"),
+    // the records of a session are those of its script
+    ("audit one.vox j t s", 0, "no\n"),
+    ("audit one.vox j s s", 0, "no\n"),
+    // a record is no script's, or a script's line is no record
+    ("audit one.vox j s", 0, "no\n"),
+    ("audit one.vox j s t t", 0, "no\n"),
+    // a script that changes nothing is one of them
+    ("audit one.vox j s t none", 0, "yes\n"),
+    ("audit one.vox j s none t", 0, "no\n"),
+    ("audit one.vox j s hed", 5, "voxdag: script 1 3 1\n"),
+    ("audit one.vox j s t hed", 5, "voxdag: script 2 3 1\n"),
+    ("audit one.vox j hed hed", 5, "voxdag: script 0 3 1\n"),
+    ("audit one.vox j s fine", 15, "voxdag: transcript 1 2\n"),
+    ("audit one.vox j s t fine", 15, "voxdag: transcript 2 2\n"),
+    // all scripts are read before a transcript is
+    ("audit one.vox j fine hed", 5, "voxdag: script 1 3 1\n"),
+    ("audit one.vox j s t no", 2, "voxdag: missing no\n"),
+    ("audit one.vox j lost no", 2, "voxdag: missing no\n"),
+    ("audit one.vox j s lost", 2, "voxdag: missing lost.out\n"),
+];
+
+fn shelf_of_several(alloc: Global) -> Result<MemoryShelf, Fail> {
+    let mut shelf = shelf(alloc, FIRST, BOTH_JOURNAL, FIRST_OUT)?;
+    shelf.write("t", SECOND.as_bytes())?;
+    shelf.write("t.out", SECOND_OUT.as_bytes())?;
+    shelf.write("none", b"# nothing\n")?;
+    shelf.write("none.out", b"")?;
+    shelf.write("hed", b"head\n\nhed\n")?;
+    shelf.write("hed.out", b"")?;
+    shelf.write("fine", b"head\nhead\n")?;
+    shelf.write("fine.out", b"1 @3 head\n2 @3 fine\n")?;
+    shelf.write("lost", b"head\n")?;
+    Ok(shelf)
+}
+
+#[test]
+fn several_scripts_are_audited(rt: HostRuntime) -> Result<(), Fail> {
+    let mut shelf = shelf_of_several(rt.alloc())?;
+    for &(line, status, printed) in SEVERAL {
+        ends(&rt, rt.alloc(), line, &mut shelf, status, printed)?;
     }
     Ok(())
 }
@@ -199,10 +262,7 @@ const REFUSED: &[(&str, u8, &str)] = &[
 fn the_first_fault_decides(rt: HostRuntime) -> Result<(), Fail> {
     let mut shelf = shelf(rt.alloc(), "head\nhed\n", JOURNAL, "fine\n")?;
     for &(line, status, printed) in REFUSED {
-        assert!(rt;
-            ends(&rt, rt.alloc(), line, &mut shelf, status, printed)?,
-            "at {line}"
-        );
+        ends(&rt, rt.alloc(), line, &mut shelf, status, printed)?;
     }
     Ok(())
 }

@@ -1,5 +1,5 @@
-use crate::calls::{ONE, ends, one_fault, voxdag, words_of};
-use std::alloc::{AllocError, Global};
+use crate::calls::{ONE, ends, is_end, one_fault, voxdag, words_of};
+use std::alloc::Global;
 use std::sync::Wait;
 use std::test::Fail;
 use std::thread::Threads;
@@ -7,11 +7,13 @@ use vw_io::{FaultyShelf, FaultySink, MemoryShelf, MemorySink, Shelf};
 
 /// Size 2 1 1 under version 200. At x = 0 a colour and then none; at x = 1 a colour twice.
 const LAST: [u8; 76] =
-    *b"VOX \xc8\0\0\0MAIN\0\0\0\0\x38\0\0\0SIZE\x0c\0\0\0\0\0\0\0\x02\0\0\0\x01\0\0\0\x01\0\0\0XYZI\x14\0\0\0\0\0\0\0\x04\0\0\0\0\0\0\x05\0\0\0\0\x01\0\0\x07\x01\0\0\x07";
+    *b"VOX \xc8\0\0\0MAIN\0\0\0\0\x38\0\0\0SIZE\x0c\0\0\0\0\0\0\0\x02\0\0\0\x01\0\0\0\x01\0\0\0\
+     XYZI\x14\0\0\0\0\0\0\0\x04\0\0\0\0\0\0\x05\0\0\0\0\x01\0\0\x07\x01\0\0\x07";
 
 /// A model of size 1 1 1 with no voxel.
 const EMPTY: [u8; 60] =
-    *b"VOX \x96\0\0\0MAIN\0\0\0\0\x28\0\0\0SIZE\x0c\0\0\0\0\0\0\0\x01\0\0\0\x01\0\0\0\x01\0\0\0XYZI\x04\0\0\0\0\0\0\0\0\0\0\0";
+    *b"VOX \x96\0\0\0MAIN\0\0\0\0\x28\0\0\0SIZE\x0c\0\0\0\0\0\0\0\x01\0\0\0\x01\0\0\0\x01\0\0\0\
+     XYZI\x04\0\0\0\0\0\0\0\0\0\0\0";
 
 fn shelf(alloc: Global) -> Result<MemoryShelf, Fail> {
     let mut shelf = MemoryShelf::new(alloc);
@@ -38,10 +40,7 @@ fn count_answers_by_its_words(rt: HostRuntime) -> Result<(), Fail> {
         ("Count one.vox", 1, "voxdag: usage\n"),
         ("--help", 1, "voxdag: usage\n"),
     ] {
-        assert!(rt;
-            ends(&rt, rt.alloc(), line, &mut shelf, status, want)?,
-            "at {line}"
-        );
+        ends(&rt, rt.alloc(), line, &mut shelf, status, want)?;
     }
     Ok(())
 }
@@ -62,11 +61,10 @@ fn is_counted<R: Threads + Wait + Sync>(
     file: &[u8],
     status: u8,
     want: &str,
-) -> Result<bool, Fail> {
+) -> Result<(), Fail> {
     let mut shelf = MemoryShelf::new(alloc);
     shelf.write("a.vox", file)?;
-    let ended = ends(rt, alloc, "count a.vox", &mut shelf, status, want)?;
-    Ok(ended)
+    ends(rt, alloc, "count a.vox", &mut shelf, status, want)
 }
 
 #[test]
@@ -86,8 +84,7 @@ fn count_answers_by_its_file(rt: HostRuntime) -> Result<(), Fail> {
         (40, 16, 20, 4, "voxdag: vox 4 20\n"),
     ] {
         let file = changed(rt.alloc(), length, at, byte)?;
-        let counted = is_counted(&rt, rt.alloc(), file.as_slice(), status, want)?;
-        assert!(rt; counted, "at {want}");
+        is_counted(&rt, rt.alloc(), file.as_slice(), status, want)?;
     }
     Ok(())
 }
@@ -115,7 +112,7 @@ fn are_cut<R: Threads + Wait + Sync>(
     alloc: Global,
     cut: &Cut,
     is_framed: bool,
-) -> Result<bool, Fail> {
+) -> Result<(), Fail> {
     let &(least, most, status, want) = cut;
     for kept in least..=most {
         let children = if is_framed {
@@ -125,20 +122,18 @@ fn are_cut<R: Threads + Wait + Sync>(
         };
         let children = u8::try_from(children).unwrap_or(44);
         let file = changed(alloc, kept, 16, children)?;
-        if !is_counted(rt, alloc, file.as_slice(), status, want)? {
-            return Ok(false);
-        }
+        is_counted(rt, alloc, file.as_slice(), status, want)?;
     }
-    Ok(true)
+    Ok(())
 }
 
 #[test]
 fn cut_files_have_their_fault(rt: HostRuntime) -> Result<(), Fail> {
     for cut in CUT_ANYWHERE {
-        assert!(rt; are_cut(&rt, rt.alloc(), cut, false)?, "from {}", cut.0);
+        are_cut(&rt, rt.alloc(), cut, false)?;
     }
     for cut in CUT_IN_CHILDREN {
-        assert!(rt; are_cut(&rt, rt.alloc(), cut, true)?, "from {}", cut.0);
+        are_cut(&rt, rt.alloc(), cut, true)?;
     }
     Ok(())
 }
@@ -188,36 +183,29 @@ fn scene(alloc: Global, version: u8) -> Result<Vec<u8>, Fail> {
 fn scenes_are_passed_over(rt: HostRuntime) -> Result<(), Fail> {
     for &version in &[150u8, 200] {
         let file = scene(rt.alloc(), version)?;
-        let counted = is_counted(&rt, rt.alloc(), file.as_slice(), 0, "2\n")?;
-        assert!(rt; counted, "under {version}");
+        is_counted(&rt, rt.alloc(), file.as_slice(), 0, "2\n")?;
     }
     Ok(())
 }
 
-// Whether a call with no word is refused.
-fn no_word_is_usage<R: Threads + Wait + Sync>(rt: &R, alloc: Global) -> bool {
-    let mut shelf = MemoryShelf::new(alloc);
-    let mut out = MemorySink::new(alloc);
-    let ended = voxdag(rt, alloc, &[], &mut shelf, &mut out);
-    ended == 1 && out.bytes() == b"voxdag: usage\n".as_slice()
-}
-
 #[test]
-fn no_words_are_usage(rt: HostRuntime) {
-    assert!(rt; no_word_is_usage(&rt, rt.alloc()));
+fn no_words_are_usage(rt: HostRuntime) -> Result<(), Fail> {
+    let mut shelf = MemoryShelf::new(rt.alloc());
+    let mut out = MemorySink::new(rt.alloc());
+    let ended = voxdag(&rt, rt.alloc(), &[], &mut shelf, &mut out);
+    is_end("", ended, out.bytes(), 1, "voxdag: usage\n")
 }
 
 #[test]
 fn a_fault_has_its_line(rt: HostRuntime) -> Result<(), Fail> {
     let mut shelf = FaultyShelf::new(shelf(rt.alloc())?, one_fault(rt.alloc(), 1, 0)?);
     for &(status, want) in &[(3, "voxdag: read fault one.vox\n"), (0, "1\n")] {
-        let counted = ends(&rt, rt.alloc(), "count one.vox", &mut shelf, status, want)?;
-        assert!(rt; counted, "at {want}");
+        ends(&rt, rt.alloc(), "count one.vox", &mut shelf, status, want)?;
     }
     Ok(())
 }
 
-// Whether a line of which so many bytes go through ends in status 7, with these bytes.
+// A line of which so many bytes go through ends in status 7, with these bytes.
 fn is_out_fault<R: Threads + Wait + Sync>(
     rt: &R,
     alloc: Global,
@@ -225,11 +213,11 @@ fn is_out_fault<R: Threads + Wait + Sync>(
     line: &str,
     passes: u32,
     want: &str,
-) -> Result<bool, AllocError> {
+) -> Result<(), Fail> {
     let mut out = FaultySink::new(alloc, one_fault(alloc, 1, passes)?);
     let words = words_of(alloc, line)?;
     let ended = voxdag(rt, alloc, words.as_slice(), shelf, &mut out);
-    Ok(ended == 7 && out.bytes() == want.as_bytes())
+    is_end(line, ended, out.bytes(), 7, want)
 }
 
 #[test]
@@ -240,8 +228,7 @@ fn a_line_that_fails_is_status_7(rt: HostRuntime) -> Result<(), Fail> {
         ("count no.vox", 8, "voxdag: "),
         ("count", 99, "voxdag: usage\n"),
     ] {
-        let failed = is_out_fault(&rt, rt.alloc(), &mut shelf, line, passes, want)?;
-        assert!(rt; failed, "at {line}");
+        is_out_fault(&rt, rt.alloc(), &mut shelf, line, passes, want)?;
     }
     Ok(())
 }

@@ -1,6 +1,6 @@
 //! Files of the versions of journals, made by the program.
 
-use crate::calls::{ONE, ends, holds};
+use crate::calls::{ONE, ends, holds, lacks};
 use std::alloc::Global;
 use std::test::Fail;
 use vw_io::{MemoryShelf, Shelf};
@@ -45,8 +45,8 @@ const MADE: &[(&str, &[u8])] = &[
 fn versions_of_a_journal_are_written(rt: HostRuntime) -> Result<(), Fail> {
     for &(journal, made) in MADE {
         let mut shelf = shelf(rt.alloc(), journal)?;
-        let ended = ends(&rt, rt.alloc(), "dag one.vox j d", &mut shelf, 0, "")?;
-        assert!(rt; ended && holds(&shelf, "d", made), "at {journal}");
+        ends(&rt, rt.alloc(), "dag one.vox j d", &mut shelf, 0, "")?;
+        holds(&shelf, "d", made)?;
     }
     Ok(())
 }
@@ -77,8 +77,8 @@ const REFUSED: &[(&str, &str)] = &[
 fn illegal_records_are_told(rt: HostRuntime) -> Result<(), Fail> {
     for &(journal, printed) in REFUSED {
         let mut shelf = shelf(rt.alloc(), journal)?;
-        let ended = ends(&rt, rt.alloc(), "dag one.vox j d", &mut shelf, 12, printed)?;
-        assert!(rt; ended && shelf.file("d").is_none(), "at {journal}");
+        ends(&rt, rt.alloc(), "dag one.vox j d", &mut shelf, 12, printed)?;
+        lacks(&shelf, "d")?;
     }
     Ok(())
 }
@@ -105,10 +105,7 @@ fn words_of_dag(rt: HostRuntime) -> Result<(), Fail> {
         "voxdag journal 1\nside 8\n1 0 1 fill 0 0 0 1 1 1\n2 0 2 undo\nmark 0 2 0 3\nend\n";
     let mut shelf = shelf(rt.alloc(), journal)?;
     for &(line, status, printed) in LINES {
-        assert!(rt;
-            ends(&rt, rt.alloc(), line, &mut shelf, status, printed)?,
-            "at {line}"
-        );
+        ends(&rt, rt.alloc(), line, &mut shelf, status, printed)?;
     }
     Ok(())
 }
@@ -147,18 +144,23 @@ const BY_CHANCE: &[(&str, usize, u64)] = &[
 fn files_are_those_of_a_slow_writer(rt: HostRuntime) -> Result<(), Fail> {
     for &(journal, length, number) in BY_CHANCE {
         let mut shelf = shelf(rt.alloc(), journal)?;
-        let ended = ends(&rt, rt.alloc(), "dag one.vox j d", &mut shelf, 0, "")?;
-        assert!(rt; ended && is_of(&shelf, length, number), "at {journal}");
+        ends(&rt, rt.alloc(), "dag one.vox j d", &mut shelf, 0, "")?;
+        is_of(&shelf, length, number)?;
     }
     Ok(())
 }
 
-// Whether the file that was written has this length and number.
-fn is_of(shelf: &MemoryShelf, length: usize, number: u64) -> bool {
-    match shelf.file("d") {
-        Some(file) => file.len() == length && number_of(file) == number,
-        None => false,
+// The file that was written has this length and number.
+fn is_of(shelf: &MemoryShelf, length: usize, number: u64) -> Result<(), Fail> {
+    let file = shelf.file("d").unwrap_or_default();
+    let found = file.len();
+    let summed = number_of(file);
+    if found == length && summed == number {
+        return Ok(());
     }
+    Err(Fail::new(format_args!(
+        "d: wanted are {length} bytes, {number}; found are {found}, {summed}"
+    )))
 }
 
 // For each byte in turn 31 times what was before, plus the byte.

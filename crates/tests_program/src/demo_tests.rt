@@ -1,6 +1,6 @@
 //! The load of a number, run by the program.
 
-use crate::calls::{ends, has, holds_last, one_fault};
+use crate::calls::{ends, holds_last, is_wanted, lacks, one_fault};
 use std::alloc::Global;
 use std::sync::Wait;
 use std::test::Fail;
@@ -19,31 +19,29 @@ const TRANSCRIPTS: &[(&str, &str)] = &[
     ("demo.3.out", " count 235497\n"),
 ];
 
-fn has_transcripts(shelf: &MemoryShelf) -> bool {
+fn has_transcripts(shelf: &MemoryShelf) -> Result<(), Fail> {
     for &(name, last) in TRANSCRIPTS {
-        if !holds_last(shelf, name, last.as_bytes()) || lines_of(shelf, name) != Some(201) {
-            return false;
-        }
+        holds_last(shelf, name, last.as_bytes())?;
+        has_lines(shelf, name, 201)?;
     }
-    has(shelf, "demo.4.out", None)
+    lacks(shelf, "demo.4.out")
 }
 
 // Two lines and the last one stand round 800 records.
-fn has_journal(shelf: &MemoryShelf) -> bool {
-    match shelf.file("demo.journal") {
-        Some(journal) => {
-            let begins = journal.starts_with(b"voxdag journal 1\nside 256\n1 ");
-            begins && journal.ends_with(b"\nend\n") && number_of_lines(journal) == 803
-        }
-        None => false,
-    }
+fn has_journal(shelf: &MemoryShelf) -> Result<(), Fail> {
+    has_lines(shelf, "demo.journal", 803)?;
+    holds_last(shelf, "demo.journal", b"\nend\n")?;
+    let journal = shelf.file("demo.journal").unwrap_or_default();
+    let begin = b"voxdag journal 1\nside 256\n1 ";
+    is_wanted("demo.journal", journal.get(..28).unwrap_or_default(), begin)
 }
 
-fn lines_of(shelf: &MemoryShelf, name: &str) -> Option<u32> {
-    match shelf.file(name) {
-        Some(found) => Some(number_of_lines(found)),
-        None => None,
+fn has_lines(shelf: &MemoryShelf, name: &str, want: u32) -> Result<(), Fail> {
+    let lines = number_of_lines(shelf.file(name).unwrap_or_default());
+    if lines == want {
+        return Ok(());
     }
+    Err(Fail::new(format_args!("{name}: wanted are {want} lines, found are {lines}")))
 }
 
 fn number_of_lines(text: &[u8]) -> u32 {
@@ -58,14 +56,10 @@ fn number_of_lines(text: &[u8]) -> u32 {
 fn a_load_is_run(rt: HostRuntime) -> Result<(), Fail> {
     let mut shelf = MemoryShelf::new(rt.alloc());
     for &line in &["demo 7", "demo 000007"] {
-        assert!(rt;
-            ends(&rt, rt.alloc(), line, &mut shelf, 0, SEVEN)?,
-            "at {line}"
-        );
+        ends(&rt, rt.alloc(), line, &mut shelf, 0, SEVEN)?;
     }
-    assert!(rt; has_transcripts(&shelf));
-    assert!(rt; has_journal(&shelf));
-    Ok(())
+    has_transcripts(&shelf)?;
+    has_journal(&shelf)
 }
 
 const NO_LOADS: &[&str] = &[
@@ -87,8 +81,8 @@ const NO_LOADS: &[&str] = &[
 fn a_load_is_told_by_one_number(rt: HostRuntime) -> Result<(), Fail> {
     let mut shelf = MemoryShelf::new(rt.alloc());
     for &line in NO_LOADS {
-        let refused = ends(&rt, rt.alloc(), line, &mut shelf, 1, "voxdag: usage\n")?;
-        assert!(rt; refused && has(&shelf, "demo.0.out", None), "at {line}");
+        ends(&rt, rt.alloc(), line, &mut shelf, 1, "voxdag: usage\n")?;
+        lacks(&shelf, "demo.0.out")?;
     }
     Ok(())
 }
@@ -106,24 +100,21 @@ fn is_cut<R: Threads + Wait + Sync>(
     call: u32,
     printed: &str,
     last: &str,
-) -> Result<bool, Fail> {
+) -> Result<(), Fail> {
     let inner = MemoryShelf::new(alloc);
     let mut shelf = FaultyShelf::new(inner, one_fault(alloc, call, 2)?);
-    let ended = ends(rt, alloc, "demo 0", &mut shelf, 6, printed)?;
-    Ok(ended && length_of(shelf.files(), last) == Some(2))
-}
-
-fn length_of(shelf: &MemoryShelf, name: &str) -> Option<usize> {
-    match shelf.file(name) {
-        Some(found) => Some(found.len()),
-        None => None,
+    ends(rt, alloc, "demo 0", &mut shelf, 6, printed)?;
+    let length = shelf.files().file(last).unwrap_or_default().len();
+    if length == 2 {
+        return Ok(());
     }
+    Err(Fail::new(format_args!("{last}: wanted are 2 bytes, found are {length}")))
 }
 
 #[test]
 fn each_output_of_a_load_can_fail(rt: HostRuntime) -> Result<(), Fail> {
     for &(call, printed, last) in FAILING {
-        assert!(rt; is_cut(&rt, rt.alloc(), call, printed, last)?, "at {last}");
+        is_cut(&rt, rt.alloc(), call, printed, last)?;
     }
     Ok(())
 }

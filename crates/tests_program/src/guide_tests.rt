@@ -20,16 +20,7 @@ const TRANSCRIPT: &str =
 fn examples_have_their_answers(rt: HostRuntime) -> Result<(), Fail> {
     let mut shelf = shelf_with(rt.alloc(), EXAMPLES.as_bytes())?;
     let printed = "scripts 1 records 8 marks 1 nodes 10\n";
-    assert!(rt;
-        ends(
-            &rt,
-            rt.alloc(),
-            "run --side 8 one.vox s",
-            &mut shelf,
-            0,
-            printed
-        )?
-    );
-    assert!(rt; has(&shelf, "s.out", Some(TRANSCRIPT)));
-    Ok(())
+    let line = "run --side 8 one.vox s";
+    ends(&rt, rt.alloc(), line, &mut shelf, 0, printed)?;
+    has(&shelf, "s.out", TRANSCRIPT)
 }

@@ -1,6 +1,6 @@
 //! Tests of the words that the program's top call takes, of its commands besides `run`, and of the
-//! examples of `docs/SCRIPTS.md`. It holds tests alone, over shelves and sinks in memory; one
-//! takes real files, and removes them.
+//! examples of `docs/SCRIPTS.md`. It holds tests, over shelves and sinks in memory, of which one
+//! takes real files in a folder of its own; and what other tests ask the top call.
 #![tactic(auto)]
 
 #[cfg(test)]
@@ -11,13 +11,19 @@ mod calls;
 #[cfg(test)]
 mod count_tests;
 #[cfg(test)]
+mod crowd_tests;
+#[cfg(test)]
 mod dag_tests;
 #[cfg(test)]
 mod demo_tests;
 #[cfg(test)]
+mod device_tests;
+#[cfg(test)]
 mod file_tests;
 #[cfg(test)]
 mod flood_tests;
+#[cfg(test)]
+mod full_tests;
 #[cfg(test)]
 mod guide_tests;
 #[cfg(test)]
@@ -29,5 +35,6 @@ mod word_tests;
 
 pub use calls::{
     ANSWERS, GOOD, Gated, JOURNAL, ONE, REPORT, TWO, ask, ask_gated, ends, ends_by, has, holds,
-    holds_last, is_refused, one_fault, repeated, shelf_with, voxdag, voxdag_gated, words_of,
+    holds_last, is_end, is_refused, is_wanted, lacks, one_fault, repeated, shelf_with, voxdag,
+    voxdag_gated, words_of,
 };

@@ -72,8 +72,7 @@ const LOOKS: &[(&str, &str)] = &[
 fn versions_of_a_file_are_asked(rt: HostRuntime) -> Result<(), Fail> {
     let mut shelf = shelf(rt.alloc())?;
     for &(line, printed) in LOOKS {
-        let ended = ends(&rt, rt.alloc(), line, &mut shelf, 0, printed)?;
-        assert!(rt; ended, "at {line}");
+        ends(&rt, rt.alloc(), line, &mut shelf, 0, printed)?;
     }
     Ok(())
 }
@@ -102,15 +101,13 @@ const ANSWERS: &str = "1 @1 ok\n2 @2 ok\n3 @3 ok\n\
 fn a_run_with_the_same_cells_answers_the_same(rt: HostRuntime) -> Result<(), Fail> {
     let mut shelf = shelf(rt.alloc())?;
     for &(line, printed) in SAME {
-        let ended = ends(&rt, rt.alloc(), line, &mut shelf, 0, printed)?;
-        assert!(rt; ended, "at {line}");
+        ends(&rt, rt.alloc(), line, &mut shelf, 0, printed)?;
     }
     shelf.write("s", SCRIPT)?;
     let printed = "scripts 1 records 3 marks 0 nodes 8\n";
     let line = "run --side 16 one.vox s";
-    assert!(rt; ends(&rt, rt.alloc(), line, &mut shelf, 0, printed)?);
-    assert!(rt; has(&shelf, "s.out", Some(ANSWERS)));
-    Ok(())
+    ends(&rt, rt.alloc(), line, &mut shelf, 0, printed)?;
+    has(&shelf, "s.out", ANSWERS)
 }
 
 const REFUSED: &[(&str, u8, &str)] = &[
@@ -149,8 +146,7 @@ const REFUSED: &[(&str, u8, &str)] = &[
 fn a_look_that_is_refused(rt: HostRuntime) -> Result<(), Fail> {
     let mut shelf = shelf(rt.alloc())?;
     for &(line, status, printed) in REFUSED {
-        let ended = ends(&rt, rt.alloc(), line, &mut shelf, status, printed)?;
-        assert!(rt; ended, "at {line}");
+        ends(&rt, rt.alloc(), line, &mut shelf, status, printed)?;
     }
     Ok(())
 }

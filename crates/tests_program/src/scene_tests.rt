@@ -1,6 +1,6 @@
 //! Scenes of VOX files, run by the program, and what it makes of what was written.
 
-use crate::calls::{ONE, ends, ends_by, has, holds};
+use crate::calls::{ONE, ends, ends_by, has, holds, lacks};
 use std::alloc::Global;
 use std::test::Fail;
 use testkit::{Place, Rule};
@@ -58,12 +58,9 @@ const SCENES: &[(&str, &str, &[u8], &str)] = &[
 fn a_scene_is_written(rt: HostRuntime) -> Result<(), Fail> {
     for &(line, printed, models, script) in SCENES {
         let mut shelf = shelf(rt.alloc())?;
-        assert!(rt;
-            ends(&rt, rt.alloc(), line, &mut shelf, 0, printed)?,
-            "at {line}"
-        );
-        let whole = holds(&shelf, "o", models) && has(&shelf, "s", Some(script));
-        assert!(rt; whole, "at {line}");
+        ends(&rt, rt.alloc(), line, &mut shelf, 0, printed)?;
+        holds(&shelf, "o", models)?;
+        has(&shelf, "s", script)?;
     }
     Ok(())
 }
@@ -81,13 +78,12 @@ const IN_TURN: &[Rule] = &[((1, 1, Place::Before), (0, 2, Place::After))];
 fn what_was_written_builds_the_scene(rt: HostRuntime) -> Result<(), Fail> {
     let mut shelf = shelf(rt.alloc())?;
     let printed = "side 16 placements 2\n";
-    assert!(rt; ends(&rt, rt.alloc(), "scene bars o s", &mut shelf, 0, printed)?);
+    ends(&rt, rt.alloc(), "scene bars o s", &mut shelf, 0, printed)?;
     shelf.write("q", QUESTIONS)?;
     let printed = "scripts 2 records 2 marks 0 nodes 6\n";
     let line = "run --side 16 o s q";
-    assert!(rt; ends_by(&rt, IN_TURN, rt.alloc(), line, &mut shelf, 0, printed)?);
-    assert!(rt; has(&shelf, "q.out", Some(ANSWERS)));
-    Ok(())
+    ends_by(&rt, IN_TURN, rt.alloc(), line, &mut shelf, 0, printed)?;
+    has(&shelf, "q.out", ANSWERS)
 }
 
 const REFUSED: &[(&str, u8, &str)] = &[
@@ -107,9 +103,9 @@ const REFUSED: &[(&str, u8, &str)] = &[
 fn a_refused_scene_writes_nothing(rt: HostRuntime) -> Result<(), Fail> {
     let mut shelf = shelf(rt.alloc())?;
     for &(line, status, printed) in REFUSED {
-        let ended = ends(&rt, rt.alloc(), line, &mut shelf, status, printed)?;
-        let nothing = has(&shelf, "o", None) && has(&shelf, "s", None);
-        assert!(rt; ended && nothing, "at {line}");
+        ends(&rt, rt.alloc(), line, &mut shelf, status, printed)?;
+        lacks(&shelf, "o")?;
+        lacks(&shelf, "s")?;
     }
     Ok(())
 }

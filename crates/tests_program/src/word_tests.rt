@@ -1,6 +1,6 @@
 //! The words that the program takes, and those that it refuses.
 
-use crate::calls::{ANSWERS, GOOD, TWO, ask, ends, has, is_refused, shelf_with};
+use crate::calls::{ANSWERS, GOOD, TWO, ends, has, is_refused, shelf_with};
 use std::alloc::Global;
 use std::sync::Wait;
 use std::test::Fail;
@@ -99,17 +99,16 @@ fn is_taken<R: Threads + Wait + Sync>(
     script: &str,
     printed: &str,
     transcript: &str,
-) -> Result<bool, Fail> {
+) -> Result<(), Fail> {
     let mut shelf = shelf_with(alloc, script.as_bytes())?;
-    let ended = ends(rt, alloc, line, &mut shelf, 0, printed)?;
-    Ok(ended && has(&shelf, "s.out", Some(transcript)))
+    ends(rt, alloc, line, &mut shelf, 0, printed)?;
+    has(&shelf, "s.out", transcript)
 }
 
 #[test]
 fn options_stand_anywhere(rt: HostRuntime) -> Result<(), Fail> {
     for &line in AT_8 {
-        let taken = is_taken(&rt, rt.alloc(), line, GOOD, TWO, ANSWERS)?;
-        assert!(rt; taken, "at {line}");
+        is_taken(&rt, rt.alloc(), line, GOOD, TWO, ANSWERS)?;
     }
     Ok(())
 }
@@ -117,8 +116,7 @@ fn options_stand_anywhere(rt: HostRuntime) -> Result<(), Fail> {
 #[test]
 fn the_flag_stands_anywhere(rt: HostRuntime) -> Result<(), Fail> {
     for &line in WITH_TINTS {
-        let taken = is_taken(&rt, rt.alloc(), line, GOOD, TINTED, ANSWERS)?;
-        assert!(rt; taken, "at {line}");
+        is_taken(&rt, rt.alloc(), line, GOOD, TINTED, ANSWERS)?;
     }
     Ok(())
 }
@@ -126,8 +124,7 @@ fn the_flag_stands_anywhere(rt: HostRuntime) -> Result<(), Fail> {
 #[test]
 fn the_side_is_256_where_it_is_left_out(rt: HostRuntime) -> Result<(), Fail> {
     for &line in AT_256 {
-        let taken = is_taken(&rt, rt.alloc(), line, WHOLE, DEEP, COUNTED)?;
-        assert!(rt; taken, "at {line}");
+        is_taken(&rt, rt.alloc(), line, WHOLE, DEEP, COUNTED)?;
     }
     Ok(())
 }
@@ -135,8 +132,7 @@ fn the_side_is_256_where_it_is_left_out(rt: HostRuntime) -> Result<(), Fail> {
 #[test]
 fn other_sides_are_taken(rt: HostRuntime) -> Result<(), Fail> {
     for &(line, script, printed, transcript) in SIDES {
-        let taken = is_taken(&rt, rt.alloc(), line, script, printed, transcript)?;
-        assert!(rt; taken, "at {line}");
+        is_taken(&rt, rt.alloc(), line, script, printed, transcript)?;
     }
     Ok(())
 }
@@ -153,21 +149,27 @@ const VALUES: &[(&str, &str)] = &[
     ("run --journal=--colours one.vox s", "--colours"),
 ];
 
+// The line of the two changes at side 256, and their journal.
+const WIDE: &str = "scripts 1 records 2 marks 0 nodes 14\n";
+
+const WIDE_JOURNAL: &str =
+    "voxdag journal 1\nside 256\n1 0 1 fill 0 0 0 2 1 1\n2 0 2 erase 1 0 0 1 1 1\nend\n";
+
 fn leaves<R: Threads + Wait + Sync>(
     rt: &R,
     alloc: Global,
     line: &str,
     name: &str,
-) -> Result<bool, Fail> {
+) -> Result<(), Fail> {
     let mut shelf = shelf_with(alloc, GOOD.as_bytes())?;
-    let (ended, _) = ask(rt, alloc, line, &mut shelf)?;
-    Ok(ended == 0 && shelf.file(name).is_some())
+    ends(rt, alloc, line, &mut shelf, 0, WIDE)?;
+    has(&shelf, name, WIDE_JOURNAL)
 }
 
 #[test]
 fn values_are_the_texts_that_stand_there(rt: HostRuntime) -> Result<(), Fail> {
     for &(line, name) in VALUES {
-        assert!(rt; leaves(&rt, rt.alloc(), line, name)?, "at {line}");
+        leaves(&rt, rt.alloc(), line, name)?;
     }
     Ok(())
 }
@@ -269,7 +271,7 @@ const NO_WORDS: &[&str] = &[
 #[test]
 fn other_words_are_usage(rt: HostRuntime) -> Result<(), Fail> {
     for &line in NO_WORDS {
-        assert!(rt; is_refused(&rt, rt.alloc(), line, 1, USAGE)?, "at {line}");
+        is_refused(&rt, rt.alloc(), line, 1, USAGE)?;
     }
     Ok(())
 }
@@ -286,26 +288,29 @@ const NAMES: &[(&str, &str)] = &[
 #[test]
 fn words_without_hyphens_are_names(rt: HostRuntime) -> Result<(), Fail> {
     for &(line, printed) in NAMES {
-        assert!(rt; is_refused(&rt, rt.alloc(), line, 2, printed)?, "at {line}");
+        is_refused(&rt, rt.alloc(), line, 2, printed)?;
     }
     Ok(())
 }
 
-// The status of a run of so many scripts, whose file isn't there.
-fn status_of<R: Threads + Wait + Sync>(rt: &R, alloc: Global, scripts: u32) -> Result<u8, Fail> {
+// A run of so many scripts, whose file isn't there, is refused so.
+fn is_run_of<R: Threads + Wait + Sync>(
+    rt: &R,
+    alloc: Global,
+    scripts: u32,
+    status: u8,
+    printed: &str,
+) -> Result<(), Fail> {
     let mut line = String::from_str(alloc, "run no.vox")?;
     for _ in 0..scripts {
         line.push_str(" t")?;
     }
     line.push_str(" --side 8")?;
-    let mut shelf = shelf_with(alloc, GOOD.as_bytes())?;
-    let (ended, _) = ask(rt, alloc, line.as_str(), &mut shelf)?;
-    Ok(ended)
+    is_refused(rt, alloc, line.as_str(), status, printed)
 }
 
 #[test]
 fn runs_have_64_scripts(rt: HostRuntime) -> Result<(), Fail> {
-    assert_eq!(rt; status_of(&rt, rt.alloc(), 64)?, 2);
-    assert_eq!(rt; status_of(&rt, rt.alloc(), 65)?, 1);
-    Ok(())
+    is_run_of(&rt, rt.alloc(), 64, 2, "voxdag: missing no.vox\n")?;
+    is_run_of(&rt, rt.alloc(), 65, 1, USAGE)
 }

@@ -45,12 +45,7 @@ fn script_in(
 
 // The script of a text, in the world of a history.
 #[tactic(auto, using(crate::proofs::OfAudits::Worlds::fits_store))]
-fn script_of(
-    alloc: Global,
-    text: &str,
-    history: &History,
-    models: &Models,
-) -> Result<Script, Fail>
+fn script_of(alloc: Global, text: &str, history: &History, models: &Models) -> Result<Script, Fail>
     requires { models.now ≡ [] }
     ensures fits { IfOk result (All
         (λ l. CommandFits history.now.coloured (2 ^ history.now.side) models.now l.command)) }

@@ -11,7 +11,8 @@ use vw_io::{MemoryShelf, MemorySink, Shelf};
 
 /// A model of one cell, 64 bytes.
 pub const ONE: [u8; 64] =
-    *b"VOX \x96\0\0\0MAIN\0\0\0\0\x2c\0\0\0SIZE\x0c\0\0\0\0\0\0\0\x01\0\0\0\x01\0\0\0\x01\0\0\0XYZI\x08\0\0\0\0\0\0\0\x01\0\0\0\0\0\0\x01";
+    *b"VOX \x96\0\0\0MAIN\0\0\0\0\x2c\0\0\0SIZE\x0c\0\0\0\0\0\0\0\x01\0\0\0\x01\0\0\0\x01\0\0\0\
+     XYZI\x08\0\0\0\0\0\0\0\x01\0\0\0\0\0\0\x01";
 
 /// A script of two changes and a question, its transcript, its journal and its report at side 8,
 /// and the run's line.
@@ -36,29 +37,64 @@ pub fn shelf_with(alloc: Global, script: &[u8]) -> Result<MemoryShelf, Fail> {
     Ok(shelf)
 }
 
-/// Whether the file of this name has these bytes.
-pub fn holds(shelf: &MemoryShelf, name: &str, want: &[u8]) -> bool {
-    match shelf.file(name) {
-        Some(found) => found == want,
-        None => false,
-    }
-}
-
-/// Whether the file of this name ends so.
-pub fn holds_last(shelf: &MemoryShelf, name: &str, last: &[u8]) -> bool {
-    match shelf.file(name) {
-        Some(found) => found.ends_with(last),
-        None => false,
-    }
-}
-
-/// Whether the file of this name has this text, or where that is left out, there is no such file.
-pub fn has(shelf: &MemoryShelf, name: &str, want: Option<&str>) -> bool {
+// The file of this name has these bytes, or where they are left out, there is no such file; else
+// what stands there instead.
+fn left(shelf: &MemoryShelf, name: &str, want: Option<&[u8]>) -> Result<(), Fail> {
     match (shelf.file(name), want) {
-        (Some(found), Some(text)) => found == text.as_bytes(),
-        (None, None) => true,
-        _ => false,
+        (Some(found), Some(want)) => is_wanted(name, found, want),
+        (None, None) => Ok(()),
+        (Some(_), None) => Err(Fail::new(format_args!("{name}: wanted is no such file"))),
+        (None, Some(_)) => Err(Fail::new(format_args!("{name}: there is no such file"))),
     }
+}
+
+/// The file of this name has these bytes.
+pub fn holds(shelf: &MemoryShelf, name: &str, want: &[u8]) -> Result<(), Fail> {
+    left(shelf, name, Some(want))
+}
+
+/// The file of this name has this text.
+pub fn has(shelf: &MemoryShelf, name: &str, want: &str) -> Result<(), Fail> {
+    left(shelf, name, Some(want.as_bytes()))
+}
+
+/// There is no file of this name.
+pub fn lacks(shelf: &MemoryShelf, name: &str) -> Result<(), Fail> {
+    left(shelf, name, None)
+}
+
+/// The file of this name ends so.
+pub fn holds_last(shelf: &MemoryShelf, name: &str, last: &[u8]) -> Result<(), Fail> {
+    match shelf.file(name) {
+        Some(found) => {
+            let from = found.len().saturating_sub(last.len());
+            is_wanted(name, found.get(from..).unwrap_or_default(), last)
+        }
+        None => Err(Fail::new(format_args!("{name}: there is no such file"))),
+    }
+}
+
+/// Found is what is wanted; else both from where they differ.
+pub fn is_wanted(name: &str, found: &[u8], want: &[u8]) -> Result<(), Fail> {
+    if found == want {
+        return Ok(());
+    }
+    let at = length_of_same(found, want);
+    let there = found.get(at..).unwrap_or_default().escape_ascii();
+    let wanted = want.get(at..).unwrap_or_default().escape_ascii();
+    Err(Fail::new(format_args!("{name}, byte {at}: wanted is {wanted}, found is {there}")))
+}
+
+// How many bytes are the same before the first that differs.
+fn length_of_same(found: &[u8], want: &[u8]) -> usize {
+    let mut length: usize = 0;
+    for (there, wanted) in found.iter().zip(want) {
+        if there != wanted {
+            return length;
+        }
+        length = length.saturating_add(1);
+    }
+    length
 }
 
 /// This text so many times.
@@ -103,7 +139,7 @@ pub fn ask_gated<S: Shelf, R: Threads + Wait + Sync, G: Gate + Sync>(
     Ok((status, out))
 }
 
-/// Whether a line of words ends in this status, and the program put this.
+/// A line of words ends in this status, and the program puts this; else what came instead.
 pub fn ends<S: Shelf, R: Threads + Wait + Sync>(
     rt: &R,
     alloc: Global,
@@ -111,9 +147,9 @@ pub fn ends<S: Shelf, R: Threads + Wait + Sync>(
     shelf: &mut S,
     status: u8,
     printed: &str,
-) -> Result<bool, AllocError> {
+) -> Result<(), Fail> {
     let (ended, out) = ask(rt, alloc, line, shelf)?;
-    Ok(ended == status && out.bytes() == printed.as_bytes())
+    is_end(line, ended, out.bytes(), status, printed)
 }
 
 /// The same, where the scripts meet so. No line waits in vain.
@@ -125,24 +161,38 @@ pub fn ends_by<S: Shelf, R: Threads + Wait + Sync>(
     shelf: &mut S,
     status: u8,
     printed: &str,
-) -> Result<bool, AllocError> {
+) -> Result<(), Fail> {
     let meeting = Meeting::new(rules);
     let (ended, out) = ask_gated(rt, &meeting, alloc, line, shelf)?;
-    let met = !meeting.is_given_up();
-    Ok(met && ended == status && out.bytes() == printed.as_bytes())
+    if meeting.is_given_up() {
+        return Err(Fail::new(format_args!("{line}: a script waits in vain")));
+    }
+    is_end(line, ended, out.bytes(), status, printed)
 }
 
-/// Whether a line of words is refused so over the script of two changes, and leaves no transcript.
+/// A line of words that ended in one status ended in the other, and what it put is wanted.
+pub fn is_end(line: &str, ended: u8, put: &[u8], status: u8, printed: &str) -> Result<(), Fail> {
+    if ended == status && put == printed.as_bytes() {
+        return Ok(());
+    }
+    let wanted = printed.as_bytes().escape_ascii();
+    let put = put.escape_ascii();
+    Err(Fail::new(format_args!(
+        "{line}: wanted is status {status}, {wanted}; it ended in {ended}, {put}"
+    )))
+}
+
+/// A line of words is refused so over the script of two changes, and leaves no transcript.
 pub fn is_refused<R: Threads + Wait + Sync>(
     rt: &R,
     alloc: Global,
     line: &str,
     status: u8,
     printed: &str,
-) -> Result<bool, Fail> {
+) -> Result<(), Fail> {
     let mut shelf = shelf_with(alloc, GOOD.as_bytes())?;
-    let ended = ends(rt, alloc, line, &mut shelf, status, printed)?;
-    Ok(ended && has(&shelf, "s.out", None))
+    ends(rt, alloc, line, &mut shelf, status, printed)?;
+    lacks(&shelf, "s.out")
 }
 
 /// One call that fails, of this number, and how many bytes go through at it.

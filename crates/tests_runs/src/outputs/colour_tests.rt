@@ -5,7 +5,7 @@ use std::sync::Wait;
 use std::test::Fail;
 use std::thread::Threads;
 use testkit::{Place, Rule};
-use tests_program::{ANSWERS, GOOD, ends, ends_by, has, holds, shelf_with};
+use tests_program::{ANSWERS, GOOD, ends, ends_by, has, holds, lacks, shelf_with};
 use vw_io::{MemoryShelf, Shelf};
 
 // A cell gets tint 5, and then tint 2: the second fill goes over the first.
@@ -28,7 +28,8 @@ const TWICE_LINE: &str = "scripts 1 records 2 marks 0 nodes 7\n";
 
 // A model of one cell of colour 2, whose last byte is that colour.
 const OF_TWO: [u8; 64] =
-    *b"VOX \x96\0\0\0MAIN\0\0\0\0\x2c\0\0\0SIZE\x0c\0\0\0\0\0\0\0\x01\0\0\0\x01\0\0\0\x01\0\0\0XYZI\x08\0\0\0\0\0\0\0\x01\0\0\0\0\0\0\x02";
+    *b"VOX \x96\0\0\0MAIN\0\0\0\0\x2c\0\0\0SIZE\x0c\0\0\0\0\0\0\0\x01\0\0\0\x01\0\0\0\x01\0\0\0\
+     XYZI\x08\0\0\0\0\0\0\0\x01\0\0\0\0\0\0\x02";
 
 // Two models: one cell of colour 1, and a row of three places, of colours 7, none and 9.
 const MODELS: &[u8] = b"VOX \x96\0\0\0MAIN\0\0\0\0\x5c\0\0\0\
@@ -72,20 +73,17 @@ fn coloured<R: Threads + Wait + Sync>(
 ) -> Result<MemoryShelf, Fail> {
     let mut shelf = shelf_of(alloc, script)?;
     let line = "run --colours --side 8 --journal j --report p two.vox s";
-    if !ends(rt, alloc, line, &mut shelf, 0, printed)? {
-        return Err(Fail::from("the line"));
-    }
+    ends(rt, alloc, line, &mut shelf, 0, printed)?;
     Ok(shelf)
 }
 
 #[test]
 fn cells_have_their_last_tint(rt: HostRuntime) -> Result<(), Fail> {
     let shelf = coloured(&rt, rt.alloc(), TWICE, TWICE_LINE)?;
-    assert!(rt; has(&shelf, "s.out", Some(TWICE_ANSWERS)));
-    assert!(rt; has(&shelf, "j", Some(TWICE_JOURNAL)));
-    assert!(rt; has(&shelf, "p", Some(TWICE_REPORT)));
-    assert!(rt; holds(&shelf, "c.vox", &OF_TWO));
-    Ok(())
+    has(&shelf, "s.out", TWICE_ANSWERS)?;
+    has(&shelf, "j", TWICE_JOURNAL)?;
+    has(&shelf, "p", TWICE_REPORT)?;
+    holds(&shelf, "c.vox", &OF_TWO)
 }
 
 // No level of this run can need 256 contents, so that no bucket of so many slots is full.
@@ -93,9 +91,8 @@ fn cells_have_their_last_tint(rt: HostRuntime) -> Result<(), Fail> {
 fn roomy_buckets_refuse_no_tint(rt: HostRuntime) -> Result<(), Fail> {
     let mut shelf = shelf_with(rt.alloc(), TWICE.as_bytes())?;
     let line = "run --colours --side 8 --cap 256 one.vox s";
-    assert!(rt; ends(&rt, rt.alloc(), line, &mut shelf, 0, TWICE_LINE)?);
-    assert!(rt; has(&shelf, "s.out", Some(TWICE_ANSWERS)));
-    Ok(())
+    ends(&rt, rt.alloc(), line, &mut shelf, 0, TWICE_LINE)?;
+    has(&shelf, "s.out", TWICE_ANSWERS)
 }
 
 // Scripts, the lines that they put, and their transcripts.
@@ -141,9 +138,20 @@ const ROWS: &[(&str, &str, &str)] = &[
 fn tints_are_told(rt: HostRuntime) -> Result<(), Fail> {
     for &(script, printed, transcript) in ROWS {
         let shelf = coloured(&rt, rt.alloc(), script, printed)?;
-        assert!(rt; has(&shelf, "s.out", Some(transcript)), "at {script}");
+        has(&shelf, "s.out", transcript)?;
     }
     Ok(())
+}
+
+// A stamp of the file of one cell gives its colour 1 to a cell that had another.
+#[test]
+fn a_cell_of_another_file_has_its_tint(rt: HostRuntime) -> Result<(), Fail> {
+    let script = b"fill 2 0 0 1 1 1 6\nstamp 0 2 0 0\ncolour 2 0 0\n";
+    let mut shelf = shelf_with(rt.alloc(), script)?;
+    let line = "run --colours --side 8 one.vox s";
+    let printed = "scripts 1 records 2 marks 0 nodes 6\n";
+    ends(&rt, rt.alloc(), line, &mut shelf, 0, printed)?;
+    has(&shelf, "s.out", "1 @1 ok\n2 @2 ok\n3 @2 colour 1\n")
 }
 
 // Words of a script that fit no world with tints, and the line that says so.
@@ -168,8 +176,8 @@ fn tints_have_their_range(rt: HostRuntime) -> Result<(), Fail> {
     for &(script, printed) in REFUSED {
         let mut shelf = shelf_with(rt.alloc(), script.as_bytes())?;
         let line = "run --colours --side 8 one.vox s";
-        let ended = ends(&rt, rt.alloc(), line, &mut shelf, 5, printed)?;
-        assert!(rt; ended && has(&shelf, "s.out", None), "at {script}");
+        ends(&rt, rt.alloc(), line, &mut shelf, 5, printed)?;
+        lacks(&shelf, "s.out")?;
     }
     Ok(())
 }
@@ -185,8 +193,7 @@ fn plain_runs_take_no_tint(rt: HostRuntime) -> Result<(), Fail> {
     ] {
         let mut shelf = shelf_with(rt.alloc(), script.as_bytes())?;
         let line = "run --side 8 one.vox s";
-        let ended = ends(&rt, rt.alloc(), line, &mut shelf, 5, printed)?;
-        assert!(rt; ended, "at {script}");
+        ends(&rt, rt.alloc(), line, &mut shelf, 5, printed)?;
     }
     Ok(())
 }
@@ -198,8 +205,7 @@ const AUDIT: &str = "audit two.vox j s";
 fn coloured_runs_are_audited_yes(rt: HostRuntime) -> Result<(), Fail> {
     for &(script, printed, _) in ROWS {
         let mut shelf = coloured(&rt, rt.alloc(), script, printed)?;
-        let audited = ends(&rt, rt.alloc(), AUDIT, &mut shelf, 0, "yes\n")?;
-        assert!(rt; audited, "at {script}");
+        ends(&rt, rt.alloc(), AUDIT, &mut shelf, 0, "yes\n")?;
     }
     Ok(())
 }
@@ -296,18 +302,18 @@ const LEFT: &[Left] = &[
     ),
 ];
 
-fn is_audited<R: Threads + Wait + Sync>(rt: &R, alloc: Global, left: &Left) -> Result<bool, Fail> {
+fn is_audited<R: Threads + Wait + Sync>(rt: &R, alloc: Global, left: &Left) -> Result<(), Fail> {
     let &(script, journal, transcript, status, printed) = left;
     let mut shelf = shelf_of(alloc, script)?;
     shelf.write("j", journal.as_bytes())?;
     shelf.write("s.out", transcript.as_bytes())?;
-    Ok(ends(rt, alloc, AUDIT, &mut shelf, status, printed)?)
+    ends(rt, alloc, AUDIT, &mut shelf, status, printed)
 }
 
 #[test]
 fn audits_judge_tints(rt: HostRuntime) -> Result<(), Fail> {
     for left in LEFT {
-        assert!(rt; is_audited(&rt, rt.alloc(), left)?, "at {}", left.1);
+        is_audited(&rt, rt.alloc(), left)?;
     }
     Ok(())
 }
@@ -342,11 +348,10 @@ const LOOKS: &[(&str, u8, &str)] = &[
 #[test]
 fn versions_of_a_coloured_journal_are_written(rt: HostRuntime) -> Result<(), Fail> {
     let mut shelf = coloured(&rt, rt.alloc(), TWICE, TWICE_LINE)?;
-    assert!(rt; ends(&rt, rt.alloc(), "dag one.vox j d", &mut shelf, 0, "")?);
-    assert!(rt; holds(&shelf, "d", &TWICE_DAG));
+    ends(&rt, rt.alloc(), "dag one.vox j d", &mut shelf, 0, "")?;
+    holds(&shelf, "d", &TWICE_DAG)?;
     for &(line, status, printed) in LOOKS {
-        let ended = ends(&rt, rt.alloc(), line, &mut shelf, status, printed)?;
-        assert!(rt; ended, "at {line}");
+        ends(&rt, rt.alloc(), line, &mut shelf, status, printed)?;
     }
     Ok(())
 }
@@ -366,10 +371,10 @@ fn sessions_see_the_tints_of_others(rt: HostRuntime) -> Result<(), Fail> {
     shelf.write("t", second.as_bytes())?;
     let line = "run --colours --side 8 --journal j one.vox s t";
     let printed = "scripts 2 records 2 marks 0 nodes 7\n";
-    assert!(rt; ends_by(&rt, IN_TURN, rt.alloc(), line, &mut shelf, 0, printed)?);
-    assert!(rt; has(&shelf, "s.out", Some("1 @1 ok\n2 @1 colour 5\n")));
+    ends_by(&rt, IN_TURN, rt.alloc(), line, &mut shelf, 0, printed)?;
+    has(&shelf, "s.out", "1 @1 ok\n2 @1 colour 5\n")?;
     let seen = "1 @2 ok\n2 @2 colour 5\n3 @2 colour 2\n4 @2 saved 1\n";
-    assert!(rt; has(&shelf, "t.out", Some(seen)) && has(&shelf, "j", Some(BOTH_JOURNAL)));
-    assert!(rt; holds(&shelf, "c.vox", &OF_TWO));
-    Ok(())
+    has(&shelf, "t.out", seen)?;
+    has(&shelf, "j", BOTH_JOURNAL)?;
+    holds(&shelf, "c.vox", &OF_TWO)
 }

@@ -5,7 +5,7 @@ use std::sync::Wait;
 use std::test::Fail;
 use std::thread::Threads;
 use testkit::{Place, Rule};
-use tests_program::{ANSWERS, GOOD, ONE, ends, ends_by, has, holds, shelf_with};
+use tests_program::{ANSWERS, GOOD, ONE, ends, ends_by, has, holds, lacks, shelf_with};
 use vw_io::Shelf;
 
 // How many last versions are held, the script, its transcript, the line, and the lines of the
@@ -58,20 +58,20 @@ const ROWS: &[Row] = &[
     ),
 ];
 
-fn is_kept<R: Threads + Wait + Sync>(rt: &R, alloc: Global, row: &Row) -> Result<bool, Fail> {
+fn is_kept<R: Threads + Wait + Sync>(rt: &R, alloc: Global, row: &Row) -> Result<(), Fail> {
     let &(keep, script, transcript, printed, journal) = row;
     let mut shelf = shelf_with(alloc, script.as_bytes())?;
     let line = format!(in alloc; "run --side 8 --keep {keep} --journal j one.vox s")?;
-    let ended = ends(rt, alloc, line.as_str(), &mut shelf, 0, printed)?;
+    ends(rt, alloc, line.as_str(), &mut shelf, 0, printed)?;
+    has(&shelf, "s.out", transcript)?;
     let want = format!(in alloc; "voxdag journal 1\nside 8\n{journal}end\n")?;
-    let written = has(&shelf, "s.out", Some(transcript));
-    Ok(ended && written && has(&shelf, "j", Some(want.as_str())))
+    has(&shelf, "j", want.as_str())
 }
 
 #[test]
 fn versions_fall_out(rt: HostRuntime) -> Result<(), Fail> {
     for row in ROWS {
-        assert!(rt; is_kept(&rt, rt.alloc(), row)?, "with {}", row.0);
+        is_kept(&rt, rt.alloc(), row)?;
     }
     Ok(())
 }
@@ -86,9 +86,8 @@ fn reports_tell_the_last_versions(rt: HostRuntime) -> Result<(), Fail> {
     let script = ROWS[0].1;
     let mut shelf = shelf_with(rt.alloc(), script.as_bytes())?;
     let line = "run one.vox --keep=2 s --report p --side 8";
-    assert!(rt; ends(&rt, rt.alloc(), line, &mut shelf, 0, ROWS[0].3)?);
-    assert!(rt; has(&shelf, "p", Some(REPORT)));
-    Ok(())
+    ends(&rt, rt.alloc(), line, &mut shelf, 0, ROWS[0].3)?;
+    has(&shelf, "p", REPORT)
 }
 
 // What was saved is written though its version fell out since.
@@ -102,10 +101,10 @@ fn a_save_outlives_its_version(rt: HostRuntime) -> Result<(), Fail> {
     let mut shelf = shelf_with(rt.alloc(), SAVES.as_bytes())?;
     let line = "run --side 8 --keep 1 one.vox s";
     let printed = "scripts 1 records 3 marks 3 nodes 2\n";
-    assert!(rt; ends(&rt, rt.alloc(), line, &mut shelf, 0, printed)?);
-    assert!(rt; has(&shelf, "s.out", Some(SAVED)));
-    assert!(rt; holds(&shelf, "v", &ONE) && shelf.file("w").is_none());
-    Ok(())
+    ends(&rt, rt.alloc(), line, &mut shelf, 0, printed)?;
+    has(&shelf, "s.out", SAVED)?;
+    holds(&shelf, "v", &ONE)?;
+    lacks(&shelf, "w")
 }
 
 // The script of two changes has its last answer, on line 3, before the second script begins.
@@ -126,8 +125,8 @@ fn sessions_push_versions_out(rt: HostRuntime) -> Result<(), Fail> {
     shelf.write("t", STAMP.as_bytes())?;
     let line = "run --side 8 --keep 2 --journal j one.vox s t";
     let printed = "scripts 2 records 3 marks 2 nodes 4\n";
-    assert!(rt; ends_by(&rt, IN_TURN, rt.alloc(), line, &mut shelf, 0, printed)?);
-    assert!(rt; has(&shelf, "s.out", Some(ANSWERS)) && has(&shelf, "t.out", Some(STAMPED)));
-    assert!(rt; has(&shelf, "j", Some(BOTH_JOURNAL)));
-    Ok(())
+    ends_by(&rt, IN_TURN, rt.alloc(), line, &mut shelf, 0, printed)?;
+    has(&shelf, "s.out", ANSWERS)?;
+    has(&shelf, "t.out", STAMPED)?;
+    has(&shelf, "j", BOTH_JOURNAL)
 }

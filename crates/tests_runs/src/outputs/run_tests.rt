@@ -4,8 +4,8 @@ use std::test::Fail;
 use std::thread::Threads;
 use testkit::{Place, Rule};
 use tests_program::{
-    ANSWERS, GOOD, JOURNAL, ONE, TWO, ask, ends, ends_by, has, holds, holds_last, is_refused,
-    one_fault, repeated, shelf_with, voxdag, words_of,
+    ANSWERS, GOOD, JOURNAL, ONE, TWO, ends, ends_by, has, holds, holds_last, is_end, is_refused,
+    lacks, one_fault, repeated, shelf_with, voxdag, words_of,
 };
 use vw_io::{FaultyShelf, FaultySink, MemoryShelf, Shelf};
 
@@ -28,7 +28,7 @@ const NONE: &str = "scripts 1 records 0 marks 0 nodes 0\n";
 // One cell in a world of side 8.
 const SINGLE: &str = "scripts 1 records 1 marks 0 nodes 2\n";
 
-// Whether a script that is run alone has this line, transcript and journal, and its inputs stay.
+// A script that is run alone has this line, transcript and journal, and its inputs stay.
 fn is_run<R: Threads + Wait + Sync>(
     rt: &R,
     alloc: Global,
@@ -36,12 +36,14 @@ fn is_run<R: Threads + Wait + Sync>(
     printed: &str,
     transcript: &str,
     journal: &str,
-) -> Result<bool, Fail> {
+) -> Result<(), Fail> {
     let mut shelf = shelf_with(alloc, script.as_bytes())?;
     let line = "run --side 8 --journal j one.vox s";
-    let ended = ends(rt, alloc, line, &mut shelf, 0, printed)?;
-    let written = has(&shelf, "s.out", Some(transcript)) && has(&shelf, "j", Some(journal));
-    Ok(ended && written && has(&shelf, "s", Some(script)) && holds(&shelf, "one.vox", &ONE))
+    ends(rt, alloc, line, &mut shelf, 0, printed)?;
+    has(&shelf, "s.out", transcript)?;
+    has(&shelf, "j", journal)?;
+    has(&shelf, "s", script)?;
+    holds(&shelf, "one.vox", &ONE)
 }
 
 #[test]
@@ -59,8 +61,7 @@ fn scripts_have_their_outputs(rt: HostRuntime) -> Result<(), Fail> {
         ("\n\r", NONE, "", EMPTY_JOURNAL),
         ("", NONE, "", EMPTY_JOURNAL),
     ] {
-        let run = is_run(&rt, rt.alloc(), script, printed, transcript, journal)?;
-        assert!(rt; run, "at {script}");
+        is_run(&rt, rt.alloc(), script, printed, transcript, journal)?;
     }
     Ok(())
 }
@@ -79,28 +80,32 @@ XYZI\x0c\0\0\0\0\0\0\0\x02\0\0\0",
 const STAMPS: &str = "stamp 0 6 7 7\ncount 0 0 0 8 8 8\ncount 7 7 7 1 1 1\nfill 0 0 0 2 1 1\n\
      stamp 0 0 0 0\ncount 0 0 0 2 1 1\n";
 
-// Whether a stamp of such a model sets so many cells.
+// A stamp of such a model sets so many cells.
 fn sets<R: Threads + Wait + Sync>(
     rt: &R,
     alloc: Global,
     first: u8,
     last: u8,
     cells: u32,
-) -> Result<bool, Fail> {
+    printed: &str,
+) -> Result<(), Fail> {
     let mut shelf = shelf_with(alloc, STAMPS.as_bytes())?;
     shelf.write("two.vox", two_voxels(alloc, first, last)?.as_slice())?;
-    let (ended, _) = ask(rt, alloc, "run --side 8 two.vox s", &mut shelf)?;
+    ends(rt, alloc, "run --side 8 two.vox s", &mut shelf, 0, printed)?;
     let want = format!(in alloc;
         "1 @1 ok\n2 @1 count {cells}\n3 @1 count {cells}\n4 @2 ok\n5 @3 ok\n6 @3 count 2\n"
     )?;
-    Ok(ended == 0 && has(&shelf, "s.out", Some(want.as_str())))
+    has(&shelf, "s.out", want.as_str())
 }
 
 #[test]
 fn stamps_set_the_cells_of_a_model(rt: HostRuntime) -> Result<(), Fail> {
-    for &(first, last, cells) in &[(5, 6, 1), (5, 0, 0), (0, 5, 1)] {
-        let set = sets(&rt, rt.alloc(), first, last, cells)?;
-        assert!(rt; set, "colours {first} and {last}");
+    for &(first, last, cells, printed) in &[
+        (5, 6, 1, "scripts 1 records 3 marks 0 nodes 4\n"),
+        (5, 0, 0, "scripts 1 records 3 marks 0 nodes 2\n"),
+        (0, 5, 1, "scripts 1 records 3 marks 0 nodes 4\n"),
+    ] {
+        sets(&rt, rt.alloc(), first, last, cells, printed)?;
     }
     Ok(())
 }
@@ -110,12 +115,13 @@ fn writes_nothing<R: Threads + Wait + Sync>(
     alloc: Global,
     script: &str,
     printed: &str,
-) -> Result<bool, Fail> {
+) -> Result<(), Fail> {
     let mut shelf = shelf_with(alloc, script.as_bytes())?;
     let line = "run --side 8 --journal j --report p one.vox s";
-    let ended = ends(rt, alloc, line, &mut shelf, 5, printed)?;
-    let nothing = has(&shelf, "s.out", None) && has(&shelf, "j", None) && has(&shelf, "p", None);
-    Ok(ended && nothing)
+    ends(rt, alloc, line, &mut shelf, 5, printed)?;
+    lacks(&shelf, "s.out")?;
+    lacks(&shelf, "j")?;
+    lacks(&shelf, "p")
 }
 
 #[test]
@@ -130,8 +136,7 @@ fn refused_scripts_write_nothing(rt: HostRuntime) -> Result<(), Fail> {
         ("try undo\n", "voxdag: script 0 1 1\n"),
         ("fill 255 255 255 1 1 1\n", "voxdag: script 0 1 3\n"),
     ] {
-        let nothing = writes_nothing(&rt, rt.alloc(), script, printed)?;
-        assert!(rt; nothing, "at {script}");
+        writes_nothing(&rt, rt.alloc(), script, printed)?;
     }
     Ok(())
 }
@@ -143,7 +148,7 @@ fn inputs_must_be_there(rt: HostRuntime) -> Result<(), Fail> {
         ("run no.vox no", "voxdag: missing no.vox\n"),
         ("run one.vox no", "voxdag: missing no\n"),
     ] {
-        assert!(rt; is_refused(&rt, rt.alloc(), line, 2, printed)?, "at {line}");
+        is_refused(&rt, rt.alloc(), line, 2, printed)?;
     }
     Ok(())
 }
@@ -179,37 +184,45 @@ fn is_second<R: Threads + Wait + Sync>(
     alloc: Global,
     script: &str,
     both: &Both,
-) -> Result<bool, Fail> {
+) -> Result<(), Fail> {
     let &(status, printed, first, second, journal) = both;
     let mut shelf = shelf_with(alloc, GOOD.as_bytes())?;
     shelf.write("t", script.as_bytes())?;
     let line = "run --side 8 --journal j one.vox s t";
-    let ended = ends_by(rt, IN_TURN, alloc, line, &mut shelf, status, printed)?;
-    let written = has(&shelf, "s.out", first) && has(&shelf, "t.out", second);
-    Ok(ended && written && has(&shelf, "j", journal))
+    ends_by(rt, IN_TURN, alloc, line, &mut shelf, status, printed)?;
+    stands(&shelf, "s.out", first)?;
+    stands(&shelf, "t.out", second)?;
+    stands(&shelf, "j", journal)
+}
+
+// The file of this name has this text, or there is none.
+fn stands(shelf: &MemoryShelf, name: &str, want: Option<&str>) -> Result<(), Fail> {
+    match want {
+        Some(text) => has(shelf, name, text),
+        None => lacks(shelf, name),
+    }
 }
 
 #[test]
 fn scripts_in_turn_have_their_outputs(rt: HostRuntime) -> Result<(), Fail> {
-    assert!(rt; is_second(&rt, rt.alloc(), STAMP, &BOTH_RUN)?);
-    assert!(rt; is_second(&rt, rt.alloc(), "\npaint\n", &NONE_RUNS)?);
-    Ok(())
+    is_second(&rt, rt.alloc(), STAMP, &BOTH_RUN)?;
+    is_second(&rt, rt.alloc(), "\npaint\n", &NONE_RUNS)
 }
 
-// Whether these of three scripts, of which two have a fault, are refused so.
+// These of three scripts, of which two have a fault, are refused so.
 fn is_first<R: Threads + Wait + Sync>(
     rt: &R,
     alloc: Global,
     scripts: &str,
     printed: &str,
-) -> Result<bool, Fail> {
+) -> Result<(), Fail> {
     let mut shelf = shelf_with(alloc, b"fill 0 0 0 0 1 1\n")?;
     shelf.write("t", b"head\npaint\n")?;
     shelf.write("u", GOOD.as_bytes())?;
     shelf.write("u.out", b"kept")?;
     let line = format!(in alloc; "run --side 8 one.vox {scripts}")?;
-    let ended = ends(rt, alloc, line.as_str(), &mut shelf, 5, printed)?;
-    Ok(ended && has(&shelf, "u.out", Some("kept")))
+    ends(rt, alloc, line.as_str(), &mut shelf, 5, printed)?;
+    has(&shelf, "u.out", "kept")
 }
 
 #[test]
@@ -220,20 +233,66 @@ fn the_first_script_with_a_fault_decides(rt: HostRuntime) -> Result<(), Fail> {
         ("u s t", "voxdag: script 1 1 3\n"),
         ("u u t", "voxdag: script 2 2 1\n"),
     ] {
-        assert!(rt;
-            is_first(&rt, rt.alloc(), scripts, printed)?,
-            "at {scripts}"
-        );
+        is_first(&rt, rt.alloc(), scripts, printed)?;
     }
     Ok(())
 }
 
-fn leaves_all<R: Threads + Wait + Sync>(rt: &R, alloc: Global, line: &str) -> Result<bool, Fail> {
+// Of three files, the second is no VOX file, and of two scripts, `bad` has a fault. A line over
+// them has more than one fault, and ends by that of the earliest step: the words, the files, the
+// VOX file, the scripts in order, the names.
+const FAULTS: &[(&str, u8, &str)] = &[
+    ("run --side 5 no.vox no", 1, USAGE),
+    ("run --side 8 broken no", 2, "voxdag: missing no\n"),
+    (
+        "run --side 8 --journal s no.vox s",
+        2,
+        "voxdag: missing no.vox\n",
+    ),
+    ("run --side 8 broken s", 4, "voxdag: vox 4 8\n"),
+    ("run --side 8 broken bad", 4, "voxdag: vox 4 8\n"),
+    ("run --side 8 broken s s", 4, "voxdag: vox 4 8\n"),
+    ("run --side 8 --journal s broken s", 4, "voxdag: vox 4 8\n"),
+    (
+        "run --side 8 --journal bad one.vox bad",
+        5,
+        "voxdag: script 0 2 3\n",
+    ),
+    (
+        "run --side 8 --report j --journal j one.vox s bad",
+        5,
+        "voxdag: script 1 2 3\n",
+    ),
+    ("run --side 8 one.vox bad bad", 5, "voxdag: script 0 2 3\n"),
+    ("run --side 8 one.vox s s", 1, USAGE),
+];
+
+fn shelf_of_faults(alloc: Global) -> Result<MemoryShelf, Fail> {
+    let mut shelf = shelf_with(alloc, GOOD.as_bytes())?;
+    shelf.write("broken", ONE.get(..30).unwrap_or_default())?;
+    shelf.write("bad", b"head\nfill 0 0 0 9 1 1\n")?;
+    Ok(shelf)
+}
+
+#[test]
+fn the_first_fault_decides(rt: HostRuntime) -> Result<(), Fail> {
+    let mut shelf = shelf_of_faults(rt.alloc())?;
+    for &(line, status, printed) in FAULTS {
+        ends(&rt, rt.alloc(), line, &mut shelf, status, printed)?;
+        lacks(&shelf, "s.out")?;
+        lacks(&shelf, "bad.out")?;
+        lacks(&shelf, "j")?;
+    }
+    Ok(())
+}
+
+fn leaves_all<R: Threads + Wait + Sync>(rt: &R, alloc: Global, line: &str) -> Result<(), Fail> {
     let mut shelf = shelf_with(alloc, GOOD.as_bytes())?;
     shelf.write("s.out", &ONE)?;
-    let ended = ends(rt, alloc, line, &mut shelf, 1, USAGE)?;
-    let same = holds(&shelf, "one.vox", &ONE) && holds(&shelf, "s.out", &ONE);
-    Ok(ended && same && has(&shelf, "s", Some(GOOD)))
+    ends(rt, alloc, line, &mut shelf, 1, USAGE)?;
+    holds(&shelf, "one.vox", &ONE)?;
+    holds(&shelf, "s.out", &ONE)?;
+    has(&shelf, "s", GOOD)
 }
 
 #[test]
@@ -248,50 +307,59 @@ fn outputs_take_no_other_name(rt: HostRuntime) -> Result<(), Fail> {
         "run --side 8 --journal j --report j one.vox s",
         "run --side 8 s.out s",
     ] {
-        assert!(rt; leaves_all(&rt, rt.alloc(), line)?, "at {line}");
+        leaves_all(&rt, rt.alloc(), line)?;
     }
     Ok(())
 }
 
-#[test]
-fn runs_have_65535_records(rt: HostRuntime) -> Result<(), Fail> {
-    let script = repeated(rt.alloc(), "fill 0 0 0 1 1 1\n", 65_536)?;
-    let mut shelf = shelf_with(rt.alloc(), script.as_slice())?;
+// A script of so many fills of one cell and of these lines ends its transcript so.
+fn is_full_log<R: Threads + Wait + Sync>(
+    rt: &R,
+    alloc: Global,
+    fills: u32,
+    lines: &str,
+    last: &str,
+) -> Result<(), Fail> {
+    let mut script = repeated(alloc, "fill 0 0 0 1 1 1\n", fills)?;
+    script.extend_from_slice(lines.as_bytes())?;
+    let mut shelf = shelf_with(alloc, script.as_slice())?;
+    let line = "run --side 8 one.vox s";
     let printed = "scripts 1 records 65535 marks 0 nodes 2\n";
-    assert!(rt;
-        ends(
-            &rt,
-            rt.alloc(),
-            "run --side 8 one.vox s",
-            &mut shelf,
-            0,
-            printed
-        )?
-    );
-    let last = b"\n65535 @65535 ok\n65536 @65535 log full\n";
-    assert!(rt; holds_last(&shelf, "s.out", last));
-    Ok(())
+    ends(rt, alloc, line, &mut shelf, 0, printed)?;
+    holds_last(&shelf, "s.out", last.as_bytes())
 }
 
-// Whether a script of so many empty lines ends so, and has a transcript where it is run.
+#[test]
+fn runs_have_65535_records(rt: HostRuntime) -> Result<(), Fail> {
+    let last = "\n65535 @65535 ok\n65536 @65535 log full\n";
+    is_full_log(&rt, rt.alloc(), 65_536, "", last)
+}
+
+// The last record is an undo, so that there is something to undo and to redo.
+#[test]
+fn a_full_log_takes_no_undo(rt: HostRuntime) -> Result<(), Fail> {
+    let lines = "undo\nundo\nredo\ntry fill 0 0 0 1 1 1\nerase 0 0 0 1 1 1\nhead\n";
+    let last = "\n65535 @65535 ok\n65536 @65535 log full\n65537 @65535 log full\n\
+                65538 @65535 log full\n65539 @65535 log full\n65540 @65535 head\n";
+    is_full_log(&rt, rt.alloc(), 65_534, lines, last)
+}
+
+// A script of so many empty lines ends so, and has a transcript where it is run.
 fn is_run_or_refused<R: Threads + Wait + Sync>(
     rt: &R,
     alloc: Global,
     lines: u32,
     status: u8,
     printed: &str,
-) -> Result<bool, Fail> {
+) -> Result<(), Fail> {
     let script = repeated(alloc, "\n", lines)?;
     let mut shelf = shelf_with(alloc, script.as_slice())?;
-    let ended = ends(
-        rt,
-        alloc,
-        "run --side 8 one.vox s",
-        &mut shelf,
-        status,
-        printed,
-    )?;
-    Ok(ended && shelf.file("s.out").is_some() == (status == 0))
+    let line = "run --side 8 one.vox s";
+    ends(rt, alloc, line, &mut shelf, status, printed)?;
+    if status == 0 {
+        return has(&shelf, "s.out", "");
+    }
+    lacks(&shelf, "s.out")
 }
 
 #[test]
@@ -302,8 +370,7 @@ fn long_scripts_are_refused(rt: HostRuntime) -> Result<(), Fail> {
         (8_388_608, 5, "voxdag: script 0 100001 7\n"),
         (8_388_609, 9, "voxdag: too long s\n"),
     ] {
-        let ended = is_run_or_refused(&rt, rt.alloc(), lines, status, printed)?;
-        assert!(rt; ended, "at {lines}");
+        is_run_or_refused(&rt, rt.alloc(), lines, status, printed)?;
     }
     Ok(())
 }
@@ -364,45 +431,44 @@ const FAILING: &[Failing] = &[
     ),
 ];
 
-fn fails<R: Threads + Wait + Sync>(rt: &R, alloc: Global, failing: &Failing) -> Result<bool, Fail> {
+fn fails<R: Threads + Wait + Sync>(rt: &R, alloc: Global, failing: &Failing) -> Result<(), Fail> {
     let &(call, status, printed, left) = failing;
     let mut inner = shelf_with(alloc, GOOD.as_bytes())?;
     inner.write("t", STAMP.as_bytes())?;
     let mut shelf = FaultyShelf::new(inner, one_fault(alloc, call, 5)?);
     let line = "run --side 8 --journal j --report p one.vox s t";
-    let ended = ends_by(rt, IN_TURN, alloc, line, &mut shelf, status, printed)?;
-    Ok(ended && are_left(shelf.files(), left))
+    ends_by(rt, IN_TURN, alloc, line, &mut shelf, status, printed)?;
+    are_left(shelf.files(), left)
 }
 
-fn are_left(files: &MemoryShelf, left: &[Option<&str>]) -> bool {
+fn are_left(files: &MemoryShelf, left: &[Option<&str>]) -> Result<(), Fail> {
     for (&name, &want) in OUTPUTS.iter().zip(left) {
-        if !has(files, name, want) {
-            return false;
-        }
+        stands(files, name, want)?;
     }
-    true
+    Ok(())
 }
 
 #[test]
 fn each_call_can_fail(rt: HostRuntime) -> Result<(), Fail> {
     for failing in FAILING {
-        assert!(rt; fails(&rt, rt.alloc(), failing)?, "at call {}", failing.0);
+        fails(&rt, rt.alloc(), failing)?;
     }
     Ok(())
 }
 
-// Whether a run whose line fails behind three bytes has written all.
-fn are_whole<R: Threads + Wait + Sync>(rt: &R, alloc: Global) -> Result<bool, Fail> {
+// A run whose line fails behind three bytes has written all.
+fn are_whole<R: Threads + Wait + Sync>(rt: &R, alloc: Global) -> Result<(), Fail> {
     let mut shelf = shelf_with(alloc, GOOD.as_bytes())?;
     let mut out = FaultySink::new(alloc, one_fault(alloc, 1, 3)?);
-    let words = words_of(alloc, "run --side 8 --journal j one.vox s")?;
+    let line = "run --side 8 --journal j one.vox s";
+    let words = words_of(alloc, line)?;
     let ended = voxdag(rt, alloc, words.as_slice(), &mut shelf, &mut out);
-    let failed = ended == 7 && out.bytes() == b"scr".as_slice();
-    Ok(failed && has(&shelf, "s.out", Some(ANSWERS)) && has(&shelf, "j", Some(JOURNAL)))
+    is_end(line, ended, out.bytes(), 7, "scr")?;
+    has(&shelf, "s.out", ANSWERS)?;
+    has(&shelf, "j", JOURNAL)
 }
 
 #[test]
 fn outputs_are_whole_where_no_line_is_put(rt: HostRuntime) -> Result<(), Fail> {
-    assert!(rt; are_whole(&rt, rt.alloc())?);
-    Ok(())
+    are_whole(&rt, rt.alloc())
 }

@@ -1,19 +1,23 @@
 //! Scripts that save boxes as files.
 
-use std::alloc::Global;
+use std::alloc::{AllocError, Global};
 use std::sync::Wait;
 use std::test::Fail;
 use std::thread::Threads;
-use tests_program::{ONE, ask, ends, has, holds, one_fault, repeated, shelf_with};
+use tests_program::{
+    ONE, ask, ends, has, holds, is_end, is_wanted, lacks, one_fault, repeated, shelf_with,
+};
 use vw_io::{FaultyShelf, MemoryShelf, Shelf};
 
 // The file of a model of size 1 1 1 without a voxel: 60 bytes, and MAIN has 40 behind it.
 const NO_CELL: [u8; 60] =
-    *b"VOX \x96\0\0\0MAIN\0\0\0\0\x28\0\0\0SIZE\x0c\0\0\0\0\0\0\0\x01\0\0\0\x01\0\0\0\x01\0\0\0XYZI\x04\0\0\0\0\0\0\0\0\0\0\0";
+    *b"VOX \x96\0\0\0MAIN\0\0\0\0\x28\0\0\0SIZE\x0c\0\0\0\0\0\0\0\x01\0\0\0\x01\0\0\0\x01\0\0\0\
+     XYZI\x04\0\0\0\0\0\0\0\0\0\0\0";
 
 // The cells (1,0,0), (0,1,0) and (1,1,1) of a box of 2 cells a side, by rising z, then y, then x.
 const THREE: [u8; 72] =
-    *b"VOX \x96\0\0\0MAIN\0\0\0\0\x34\0\0\0SIZE\x0c\0\0\0\0\0\0\0\x02\0\0\0\x02\0\0\0\x02\0\0\0XYZI\x10\0\0\0\0\0\0\0\x03\0\0\0\x01\0\0\x01\0\x01\0\x01\x01\x01\x01\x01";
+    *b"VOX \x96\0\0\0MAIN\0\0\0\0\x34\0\0\0SIZE\x0c\0\0\0\0\0\0\0\x02\0\0\0\x02\0\0\0\x02\0\0\0\
+     XYZI\x10\0\0\0\0\0\0\0\x03\0\0\0\x01\0\0\x01\0\x01\0\x01\x01\x01\x01\x01";
 
 // A shelf after a run of these lines at side 8, which ends in status 0.
 fn saved<R: Threads + Wait + Sync>(
@@ -22,10 +26,9 @@ fn saved<R: Threads + Wait + Sync>(
     script: &str,
 ) -> Result<MemoryShelf, Fail> {
     let mut shelf = shelf_with(alloc, script.as_bytes())?;
-    let (ended, _) = ask(rt, alloc, "run --side 8 one.vox s", &mut shelf)?;
-    if ended != 0 {
-        return Err("status 0".into());
-    }
+    let line = "run --side 8 one.vox s";
+    let (ended, _) = ask(rt, alloc, line, &mut shelf)?;
+    is_end(line, ended, b"", 0, "")?;
     Ok(shelf)
 }
 
@@ -33,25 +36,17 @@ fn saved<R: Threads + Wait + Sync>(
 fn boxes_are_saved(rt: HostRuntime) -> Result<(), Fail> {
     let script = "fill 3 3 3 1 1 1\nsave a.vox 3 3 3 1 1 1\nsave b.vox 0 0 0 1 1 1\n";
     let mut shelf = saved(&rt, rt.alloc(), script)?;
-    assert!(rt;
-        has(
-            &shelf,
-            "s.out",
-            Some("1 @1 ok\n2 @1 saved 1\n3 @1 saved 0\n")
-        )
-    );
-    assert!(rt; holds(&shelf, "a.vox", &ONE));
-    assert!(rt; holds(&shelf, "b.vox", &NO_CELL));
-    assert!(rt; ends(&rt, rt.alloc(), "count a.vox", &mut shelf, 0, "1\n")?);
-    Ok(())
+    has(&shelf, "s.out", "1 @1 ok\n2 @1 saved 1\n3 @1 saved 0\n")?;
+    holds(&shelf, "a.vox", &ONE)?;
+    holds(&shelf, "b.vox", &NO_CELL)?;
+    ends(&rt, rt.alloc(), "count a.vox", &mut shelf, 0, "1\n")
 }
 
 #[test]
 fn cells_come_by_z_then_y_then_x(rt: HostRuntime) -> Result<(), Fail> {
     let script = "fill 5 6 5 1 1 1\nfill 6 5 5 1 1 1\nfill 6 6 6 1 1 1\nsave t 5 5 5 2 2 2\n";
     let shelf = saved(&rt, rt.alloc(), script)?;
-    assert!(rt; holds(&shelf, "t", &THREE));
-    Ok(())
+    holds(&shelf, "t", &THREE)
 }
 
 const OLD: &str = "fill 3 3 3 1 1 1\nerase 0 0 0 8 8 8\nat 1 save a.vox 3 3 3 1 1 1\nforget 1\n\
@@ -72,40 +67,36 @@ fn old_versions_are_saved(rt: HostRuntime) -> Result<(), Fail> {
     let mut shelf = shelf_with(rt.alloc(), OLD.as_bytes())?;
     let line = "run --side 8 --report p one.vox s";
     let printed = "scripts 1 records 2 marks 1 nodes 0\n";
-    assert!(rt; ends(&rt, rt.alloc(), line, &mut shelf, 0, printed)?);
-    assert!(rt; are_saved(&shelf));
-    Ok(())
+    ends(&rt, rt.alloc(), line, &mut shelf, 0, printed)?;
+    are_saved(&shelf)
 }
 
-fn are_saved(shelf: &MemoryShelf) -> bool {
-    let told = has(shelf, "s.out", Some(OLD_ANSWERS)) && has(shelf, "p", Some(OLD_REPORT));
-    let saved = holds(shelf, "a.vox", &ONE) && holds(shelf, "b.vox", &NO_CELL);
-    told && saved && has(shelf, "c.vox", None) && has(shelf, "d.vox", None)
+fn are_saved(shelf: &MemoryShelf) -> Result<(), Fail> {
+    has(shelf, "s.out", OLD_ANSWERS)?;
+    has(shelf, "p", OLD_REPORT)?;
+    holds(shelf, "a.vox", &ONE)?;
+    holds(shelf, "b.vox", &NO_CELL)?;
+    lacks(shelf, "c.vox")?;
+    lacks(shelf, "d.vox")
 }
 
-// Transcripts are written first, then the saved files by script and line, then the journal.
-const FAILS: &[(u32, &str, [bool; 5])] = &[
-    (4, "voxdag: write fault s.out\n", [false; 5]),
-    (
-        5,
-        "voxdag: write fault t.out\n",
-        [true, false, false, false, false],
-    ),
-    (
-        6,
-        "voxdag: write fault b\n",
-        [true, true, false, false, false],
-    ),
-    (
-        7,
-        "voxdag: write fault a\n",
-        [true, true, true, false, false],
-    ),
-    (
-        8,
-        "voxdag: write fault j\n",
-        [true, true, true, true, false],
-    ),
+// Transcripts are written first, then the saved files by script and line, then the journal. The
+// call that fails, the line, and how many outputs are whole.
+const FAILS: &[(u32, &str, usize)] = &[
+    (4, "voxdag: write fault s.out\n", 0),
+    (5, "voxdag: write fault t.out\n", 1),
+    (6, "voxdag: write fault b\n", 2),
+    (7, "voxdag: write fault a\n", 3),
+    (8, "voxdag: write fault j\n", 4),
+];
+
+// The outputs in their order, the last one left out. Nothing went through of the one that failed.
+const OUTPUTS: &[(&str, &[u8])] = &[
+    ("s.out", b"1 @0 saved 0\n"),
+    ("t.out", b"1 @0 saved 0\n"),
+    ("b", &NO_CELL),
+    ("a", &NO_CELL),
+    ("j", b""),
 ];
 
 fn is_cut<R: Threads + Wait + Sync>(
@@ -113,44 +104,39 @@ fn is_cut<R: Threads + Wait + Sync>(
     alloc: Global,
     call: u32,
     printed: &str,
-    whole: [bool; 5],
-) -> Result<bool, Fail> {
+    whole: usize,
+) -> Result<(), Fail> {
     let mut inner = shelf_with(alloc, b"save b 0 0 0 1 1 1\n")?;
     inner.write("t", b"save a 0 0 0 1 1 1\n")?;
     let mut shelf = FaultyShelf::new(inner, one_fault(alloc, call, 0)?);
     let line = "run --side 8 --journal j one.vox s t";
-    let ended = ends(rt, alloc, line, &mut shelf, 6, printed)?;
-    Ok(ended && standing(shelf.files()) == whole)
+    ends(rt, alloc, line, &mut shelf, 6, printed)?;
+    are_whole(shelf.files(), whole)
+}
+
+// So many of the outputs are whole, and none behind them has a byte.
+fn are_whole(shelf: &MemoryShelf, whole: usize) -> Result<(), Fail> {
+    for (k, &(name, want)) in OUTPUTS.iter().enumerate() {
+        let want: &[u8] = if k < whole { want } else { b"" };
+        is_wanted(name, shelf.file(name).unwrap_or_default(), want)?;
+    }
+    Ok(())
 }
 
 #[test]
 fn each_saved_file_can_fail(rt: HostRuntime) -> Result<(), Fail> {
     for &(call, printed, whole) in FAILS {
-        assert!(rt;
-            is_cut(&rt, rt.alloc(), call, printed, whole)?,
-            "at {printed}"
-        );
+        is_cut(&rt, rt.alloc(), call, printed, whole)?;
     }
     Ok(())
 }
 
-// Which outputs are whole.
-fn standing(shelf: &MemoryShelf) -> [bool; 5] {
-    [
-        has(shelf, "s.out", Some("1 @0 saved 0\n")),
-        has(shelf, "t.out", Some("1 @0 saved 0\n")),
-        holds(shelf, "b", &NO_CELL),
-        holds(shelf, "a", &NO_CELL),
-        has(shelf, "j", Some("voxdag journal 1\nside 8\nend\n")),
-    ]
-}
-
-// Whether such a script is refused with its words, and has no transcript.
-fn is_usage<R: Threads + Wait + Sync>(rt: &R, alloc: Global, script: &str) -> Result<bool, Fail> {
+// Such a script is refused with its words, and has no transcript.
+fn is_usage<R: Threads + Wait + Sync>(rt: &R, alloc: Global, script: &str) -> Result<(), Fail> {
     let mut shelf = shelf_with(alloc, script.as_bytes())?;
     let line = "run --side 8 --journal j one.vox s";
-    let ended = ends(rt, alloc, line, &mut shelf, 1, "voxdag: usage\n")?;
-    Ok(ended && has(&shelf, "s.out", None))
+    ends(rt, alloc, line, &mut shelf, 1, "voxdag: usage\n")?;
+    lacks(&shelf, "s.out")
 }
 
 #[test]
@@ -163,7 +149,7 @@ fn saved_names_must_be_free(rt: HostRuntime) -> Result<(), Fail> {
         "save a 0 0 0 1 1 1\nsave a 0 0 0 1 1 1\n",
         "at 9 save a 0 0 0 1 1 1\nsave a 0 0 0 1 1 1\n",
     ] {
-        assert!(rt; is_usage(&rt, rt.alloc(), script)?, "at {script}");
+        is_usage(&rt, rt.alloc(), script)?;
     }
     Ok(())
 }
@@ -178,11 +164,11 @@ fn a_floor_is_saved(rt: HostRuntime) -> Result<(), Fail> {
     let model = floor(rt.alloc())?;
     shelf.write("model.vox", model.as_slice())?;
     let (ended, _) = ask(&rt, rt.alloc(), "run model.vox s", &mut shelf)?;
-    assert_eq!(rt; ended, 0);
+    is_end("run model.vox s", ended, b"", 0, "")?;
     let want = "1 @1 ok\n2 @2 ok\n3 @2 count 31752\n4 @3 ok\n5 @3 count 47628\n6 @4 ok\n\
                 7 @4 saved 31752\n";
-    assert!(rt; has(&shelf, "s.out", Some(want)));
-    let file = shelf.file("floor.vox").ok_or("a file")?;
+    has(&shelf, "s.out", want)?;
+    let file = shelf.file("floor.vox").unwrap_or_default();
     assert_eq!(rt; file.len(), 127_068);
     Ok(())
 }
@@ -202,24 +188,24 @@ XYZI\x14\xf8\0\0\0\0\0\0\x04\x3e\0\0",
     Ok(file)
 }
 
-// Whether a script of so many saves ends so.
+// A script of so many saves ends so.
 fn is_ended<R: Threads + Wait + Sync>(
     rt: &R,
     alloc: Global,
     saves: u32,
     status: u8,
     printed: &str,
-) -> Result<bool, Fail> {
+) -> Result<(), Fail> {
     let script = repeated(alloc, "save a 0 0 0 1 1 1\n", saves)?;
     let mut shelf = shelf_with(alloc, script.as_slice())?;
-    Ok(ends(
+    ends(
         rt,
         alloc,
         "run --side 8 one.vox s",
         &mut shelf,
         status,
         printed,
-    )?)
+    )
 }
 
 #[test]
@@ -228,10 +214,40 @@ fn a_script_saves_16_times(rt: HostRuntime) -> Result<(), Fail> {
         (16, 1, "voxdag: usage\n"),
         (17, 5, "voxdag: script 0 17 8\n"),
     ] {
-        assert!(rt;
-            is_ended(&rt, rt.alloc(), saves, status, printed)?,
-            "at {saves}"
-        );
+        is_ended(&rt, rt.alloc(), saves, status, printed)?;
     }
     Ok(())
+}
+
+// A name of 64 characters, of each kind that a name may have, and of 65.
+const LONGEST: &str = "0.a-z_A-Z.9-0.a-z_A-Z.9-0.a-z_A-Z.9-0.a-z_A-Z.9-0.a-z_A-Z.9-vox_";
+
+const LONGER: &str = "0.a-z_A-Z.9-0.a-z_A-Z.9-0.a-z_A-Z.9-0.a-z_A-Z.9-0.a-z_A-Z.9-vox_0";
+
+fn script_of(alloc: Global, name: &str) -> Result<String, AllocError> {
+    format!(in alloc; "fill 0 0 0 1 1 1\nsave {name} 0 0 0 1 1 1\n")
+}
+
+#[test]
+fn names_have_64_characters(rt: HostRuntime) -> Result<(), Fail> {
+    let script = script_of(rt.alloc(), LONGEST)?;
+    let shelf = saved(&rt, rt.alloc(), script.as_str())?;
+    has(&shelf, "s.out", "1 @1 ok\n2 @1 saved 1\n")?;
+    holds(&shelf, LONGEST, &ONE)
+}
+
+#[test]
+fn longer_names_are_refused(rt: HostRuntime) -> Result<(), Fail> {
+    let script = script_of(rt.alloc(), LONGER)?;
+    let mut shelf = shelf_with(rt.alloc(), script.as_bytes())?;
+    let line = "run --side 8 one.vox s";
+    ends(
+        &rt,
+        rt.alloc(),
+        line,
+        &mut shelf,
+        5,
+        "voxdag: script 0 2 3\n",
+    )?;
+    lacks(&shelf, LONGER)
 }

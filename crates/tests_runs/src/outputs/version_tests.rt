@@ -4,7 +4,7 @@ use std::alloc::Global;
 use std::sync::Wait;
 use std::test::Fail;
 use std::thread::Threads;
-use tests_program::{ask, ends, has, shelf_with};
+use tests_program::{ask, ends, has, is_end, shelf_with};
 
 // The options of a run, its script, its transcript, and the line that it puts.
 type Row = (&'static str, &'static str, &'static str, &'static str);
@@ -45,13 +45,6 @@ const EDITS: &[Row] = &[
     ),
     (
         "--side 8",
-        "undo\nfill 0 0 0 1 1 1\nundo\nfill 1 0 0 1 1 1\nredo\nundo\ncount 0 0 0 4 1 1\n",
-        "1 @0 nothing to undo\n2 @1 ok\n3 @2 ok\n4 @3 ok\n5 @3 nothing to redo\n6 @4 ok\n\
-         7 @4 count 0\n",
-        "scripts 1 records 4 marks 0 nodes 4\n",
-    ),
-    (
-        "--side 8",
         "fill 0 0 0 1 1 1\nfill 1 0 0 1 1 1\nforget 1\nundo\nforget 2\nforget 9\n\
          at 1 get 0 0 0\nsame 0 2\nhead\n",
         "1 @1 ok\n2 @2 ok\n3 @2 forgot 1\n4 @2 forgotten 1\n5 @2 is head\n6 @2 no version 9\n\
@@ -60,23 +53,28 @@ const EDITS: &[Row] = &[
     ),
 ];
 
-fn is_answered<R: Threads + Wait + Sync>(rt: &R, alloc: Global, row: &Row) -> Result<bool, Fail> {
+fn is_answered<R: Threads + Wait + Sync>(rt: &R, alloc: Global, row: &Row) -> Result<(), Fail> {
     let &(options, script, transcript, printed) = row;
     let mut shelf = shelf_with(alloc, script.as_bytes())?;
     let line = format!(in alloc; "run {options} one.vox s")?;
-    let ended = ends(rt, alloc, line.as_str(), &mut shelf, 0, printed)?;
-    Ok(ended && has(&shelf, "s.out", Some(transcript)))
+    ends(rt, alloc, line.as_str(), &mut shelf, 0, printed)?;
+    has(&shelf, "s.out", transcript)
 }
 
 #[test]
 fn commands_have_their_answers(rt: HostRuntime) -> Result<(), Fail> {
     for row in EDITS {
-        assert!(rt; is_answered(&rt, rt.alloc(), row)?, "at {}", row.1);
+        is_answered(&rt, rt.alloc(), row)?;
     }
     Ok(())
 }
 
-const UNDONE: &str = "undo\nfill 0 0 0 1 1 1\nundo\nfill 1 0 0 1 1 1\nredo\nundo\n";
+const UNDONE: &str =
+    "undo\nfill 0 0 0 1 1 1\nundo\nfill 1 0 0 1 1 1\nredo\nundo\ncount 0 0 0 4 1 1\n";
+
+const UNDONE_ANSWERS: &str =
+    "1 @0 nothing to undo\n2 @1 ok\n3 @2 ok\n4 @3 ok\n5 @3 nothing to redo\n6 @4 ok\n\
+     7 @4 count 0\n";
 
 const UNDONE_JOURNAL: &str =
     "voxdag journal 1\nside 8\n1 0 2 fill 0 0 0 1 1 1\n2 0 3 undo\n3 0 4 fill 1 0 0 1 1 1\n\
@@ -85,15 +83,11 @@ const UNDONE_JOURNAL: &str =
 #[test]
 fn undos_stand_in_the_journal(rt: HostRuntime) -> Result<(), Fail> {
     let mut shelf = shelf_with(rt.alloc(), UNDONE.as_bytes())?;
-    let (ended, _) = ask(
-        &rt,
-        rt.alloc(),
-        "run --side 8 --journal j one.vox s",
-        &mut shelf,
-    )?;
-    assert_eq!(rt; ended, 0);
-    assert!(rt; has(&shelf, "j", Some(UNDONE_JOURNAL)));
-    Ok(())
+    let line = "run --side 8 --journal j one.vox s";
+    let printed = "scripts 1 records 4 marks 0 nodes 4\n";
+    ends(&rt, rt.alloc(), line, &mut shelf, 0, printed)?;
+    has(&shelf, "s.out", UNDONE_ANSWERS)?;
+    has(&shelf, "j", UNDONE_JOURNAL)
 }
 
 // The options of a run, its script, its transcript, and what its report says behind the first line.
@@ -152,20 +146,21 @@ const REPORTS: &[Row] = &[
     ),
 ];
 
-fn is_reported<R: Threads + Wait + Sync>(rt: &R, alloc: Global, row: &Row) -> Result<bool, Fail> {
+fn is_reported<R: Threads + Wait + Sync>(rt: &R, alloc: Global, row: &Row) -> Result<(), Fail> {
     let &(options, script, transcript, report) = row;
     let mut shelf = shelf_with(alloc, script.as_bytes())?;
     let line = format!(in alloc; "run {options} --report p one.vox s")?;
     let (ended, _) = ask(rt, alloc, line.as_str(), &mut shelf)?;
+    is_end(line.as_str(), ended, b"", 0, "")?;
+    has(&shelf, "s.out", transcript)?;
     let want = format!(in alloc; "voxdag report 1\n{report}")?;
-    let told = has(&shelf, "s.out", Some(transcript)) && has(&shelf, "p", Some(want.as_str()));
-    Ok(ended == 0 && told)
+    has(&shelf, "p", want.as_str())
 }
 
 #[test]
 fn reports_tell_the_versions_that_are_kept(rt: HostRuntime) -> Result<(), Fail> {
     for row in REPORTS {
-        assert!(rt; is_reported(&rt, rt.alloc(), row)?, "at {}", row.1);
+        is_reported(&rt, rt.alloc(), row)?;
     }
     Ok(())
 }

@@ -6,7 +6,7 @@ use std::test::Fail;
 use std::thread::Threads;
 use testkit::Place::{After, Before, Between};
 use testkit::{Meeting, Rule};
-use tests_program::{ask, ask_gated, has, shelf_with};
+use tests_program::{ask, ask_gated, has, is_end, shelf_with};
 use vw_io::Shelf;
 
 // How two scripts meet, the scripts, and their transcripts.
@@ -122,20 +122,24 @@ fn meet<R: Threads + Wait + Sync>(
     alloc: Global,
     line: &str,
     row: &Row,
-) -> Result<bool, Fail> {
+) -> Result<(), Fail> {
     let &(rules, first, second, told_first, told_second) = row;
     let mut shelf = shelf_with(alloc, first.as_bytes())?;
     shelf.write("t", second.as_bytes())?;
     let meeting = Meeting::new(rules);
     let (ended, _) = ask_gated(rt, &meeting, alloc, line, &mut shelf)?;
-    let met = ended == 0 && !meeting.is_given_up();
-    Ok(met && has(&shelf, "s.out", Some(told_first)) && has(&shelf, "t.out", Some(told_second)))
+    if meeting.is_given_up() {
+        return Err(Fail::new(format_args!("a script waits in vain: {first}, {second}")));
+    }
+    is_end(line, ended, b"", 0, "")?;
+    has(&shelf, "s.out", told_first)?;
+    has(&shelf, "t.out", told_second)
 }
 
 #[test]
 fn an_edit_that_meets_another_comes_too_late(rt: HostRuntime) -> Result<(), Fail> {
     for row in ROWS {
-        assert!(rt; meet(&rt, rt.alloc(), SMALL_WORLD, row)?, "at {}", row.2);
+        meet(&rt, rt.alloc(), SMALL_WORLD, row)?;
     }
     Ok(())
 }
@@ -143,7 +147,7 @@ fn an_edit_that_meets_another_comes_too_late(rt: HostRuntime) -> Result<(), Fail
 #[test]
 fn a_large_edit_that_meets_another_is_made_again(rt: HostRuntime) -> Result<(), Fail> {
     for row in LARGE {
-        assert!(rt; meet(&rt, rt.alloc(), LARGE_WORLD, row)?, "at {}", row.2);
+        meet(&rt, rt.alloc(), LARGE_WORLD, row)?;
     }
     Ok(())
 }
@@ -151,27 +155,30 @@ fn a_large_edit_that_meets_another_is_made_again(rt: HostRuntime) -> Result<(), 
 #[test]
 fn a_version_is_forgotten_beside_an_undo(rt: HostRuntime) -> Result<(), Fail> {
     for row in FORGOTTEN {
-        assert!(rt; meet(&rt, rt.alloc(), SMALL_WORLD, row)?, "at {}", row.4);
+        meet(&rt, rt.alloc(), SMALL_WORLD, row)?;
     }
     Ok(())
 }
 
 // With no gate in their way the scripts come to one of these outcomes.
-fn come_to_one<R: Threads + Wait + Sync>(rt: &R, alloc: Global) -> Result<bool, Fail> {
+fn come_to_one<R: Threads + Wait + Sync>(rt: &R, alloc: Global) -> Result<(), Fail> {
     let mut shelf = shelf_with(alloc, UNDO.as_bytes())?;
     shelf.write("t", FORGET.as_bytes())?;
-    let (ended, _) = ask(rt, alloc, "run --side 8 one.vox s t", &mut shelf)?;
-    let mut found = false;
+    let (ended, _) = ask(rt, alloc, SMALL_WORLD, &mut shelf)?;
+    is_end(SMALL_WORLD, ended, b"", 0, "")?;
+    let first = shelf.file("s.out").unwrap_or_default();
+    let second = shelf.file("t.out").unwrap_or_default();
     for row in FORGOTTEN {
-        if has(&shelf, "s.out", Some(row.3)) && has(&shelf, "t.out", Some(row.4)) {
-            found = true;
+        if first == row.3.as_bytes() && second == row.4.as_bytes() {
+            return Ok(());
         }
     }
-    Ok(ended == 0 && found)
+    let first = first.escape_ascii();
+    let second = second.escape_ascii();
+    Err(Fail::new(format_args!("none of three outcomes: {first}; {second}")))
 }
 
 #[test]
 fn a_forgotten_version_has_one_of_three_outcomes(rt: HostRuntime) -> Result<(), Fail> {
-    assert!(rt; come_to_one(&rt, rt.alloc())?);
-    Ok(())
+    come_to_one(&rt, rt.alloc())
 }

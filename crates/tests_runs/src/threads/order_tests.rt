@@ -5,19 +5,60 @@ use std::alloc::{AllocError, Global};
 use std::sync::Wait;
 use std::test::Fail;
 use std::thread::Threads;
-use tests_program::{Gated, ask, ends, repeated, shelf_with, voxdag_gated, words_of};
+use tests_program::{
+    Gated, ask, ends, holds_last, is_end, repeated, shelf_with, voxdag_gated, words_of,
+};
 use transcript::{Answer, LineAnswer, read_transcript};
-use vw_io::{MemorySink, Shelf};
+use vw_io::{MemoryShelf, MemorySink, Shelf};
 
-// Whether the first line is accepted, and the second counts one cell, no earlier.
+// The first line is accepted, and the second counts one cell, no earlier.
 fn reads_its_own(told: &[LineAnswer]) -> bool {
     match told {
         [edit, count] => {
             let told = edit.answer == Answer::Done && count.answer == Answer::Count(1);
-            told && edit.at <= count.at
+            told && edit.line == 1 && count.line == 2 && edit.at <= count.at
         }
         _ => false,
     }
+}
+
+// Ten lines are accepted in their order, as the ten records but this one.
+fn are_the_others(told: &[LineAnswer], but: u32) -> bool {
+    let mut line: u32 = 0;
+    let mut record: u32 = 0;
+    for a in told {
+        line = line.saturating_add(1);
+        record = record.saturating_add(1);
+        if record == but {
+            record = record.saturating_add(1);
+        }
+        if a.line != line || a.at != record || a.answer != Answer::Done {
+            return false;
+        }
+    }
+    line == 10
+}
+
+// The record of the first line.
+fn first_record(told: &[LineAnswer]) -> u32 {
+    match told {
+        [edit, ..] => edit.at,
+        _ => 0,
+    }
+}
+
+// Both transcripts are so; else the first.
+fn are_told(alloc: Global, shelf: &MemoryShelf) -> Result<(), Fail> {
+    let text = shelf.file("s.out").unwrap_or_default();
+    let told = read_transcript(alloc, text)?;
+    let others = read_transcript(alloc, shelf.file("t.out").unwrap_or_default())?;
+    let but = first_record(told.as_slice());
+    if reads_its_own(told.as_slice()) && are_the_others(others.as_slice(), but) {
+        return Ok(());
+    }
+    let text = text.escape_ascii();
+    let others = shelf.file("t.out").unwrap_or_default().escape_ascii();
+    Err(Fail::new(format_args!("{text}; {others}")))
 }
 
 #[test]
@@ -25,12 +66,10 @@ fn a_session_reads_what_it_wrote(rt: HostRuntime) -> Result<(), Fail> {
     let mut shelf = shelf_with(rt.alloc(), b"fill 0 0 0 1 1 1\ncount 0 0 0 1 1 1\n")?;
     let others = repeated(rt.alloc(), "fill 2 0 0 1 1 1\n", 10)?;
     shelf.write("t", others.as_slice())?;
-    let (ended, _) = ask(&rt, rt.alloc(), "run --side 8 one.vox s t", &mut shelf)?;
-    assert_eq!(rt; ended, 0);
-    let text = shelf.file("s.out").ok_or("a transcript")?;
-    let told = read_transcript(rt.alloc(), text)?;
-    assert!(rt; reads_its_own(told.as_slice()));
-    Ok(())
+    let line = "run --side 8 one.vox s t";
+    let (ended, _) = ask(&rt, rt.alloc(), line, &mut shelf)?;
+    is_end(line, ended, b"", 0, "")?;
+    are_told(rt.alloc(), &shelf)
 }
 
 // A hundred cells of a row, one after another.
@@ -43,8 +82,8 @@ fn row_of_cells(alloc: Global) -> Result<Vec<u8>, AllocError> {
     Ok(script)
 }
 
-// Whether the journal has the hundred lines of the session in their order.
-fn stand_in_order(alloc: Global, journal: &[u8], session: u16) -> Result<bool, AllocError> {
+// The journal has the hundred lines of the session in their order.
+fn stand_in_order(alloc: Global, journal: &[u8], session: u16) -> Result<(), Fail> {
     let mut next: u32 = 0;
     for line in journal.split(|byte| *byte == b'\n') {
         let number = next.saturating_add(1);
@@ -53,7 +92,10 @@ fn stand_in_order(alloc: Global, journal: &[u8], session: u16) -> Result<bool, A
             next = number;
         }
     }
-    Ok(next == 100)
+    if next == 100 {
+        return Ok(());
+    }
+    Err(Fail::new(format_args!("session {session}: {next} records in order")))
 }
 
 // How the report of two such scripts ends, whichever is faster.
@@ -67,16 +109,12 @@ fn records_stand_in_the_order_of_their_script(rt: HostRuntime) -> Result<(), Fai
     shelf.write("t", script.as_slice())?;
     let printed = "scripts 2 records 200 marks 0 nodes 324\n";
     let line = "run --journal j --report p one.vox s t";
-    assert!(rt; ends(&rt, rt.alloc(), line, &mut shelf, 0, printed)?);
-    let journal = shelf.file("j").ok_or("a journal")?;
+    ends(&rt, rt.alloc(), line, &mut shelf, 0, printed)?;
+    let journal = shelf.file("j").unwrap_or_default();
     for session in 0..2u16 {
-        assert!(rt;
-            stand_in_order(rt.alloc(), journal, session)?,
-            "of session {session}"
-        );
+        stand_in_order(rt.alloc(), journal, session)?;
     }
-    assert!(rt; shelf.file("p").ok_or("a report")?.ends_with(LEVELS));
-    Ok(())
+    holds_last(&shelf, "p", LEVELS)
 }
 
 // Two halves of a bridge, which meet in the middle: of each half 384 and 416 cells less 132 lie
@@ -111,13 +149,21 @@ fn is_stale(answer: Answer) -> bool {
 fn two_halves_of_a_bridge_meet(rt: HostRuntime) -> Result<(), Fail> {
     let mut shelf = shelf_with(rt.alloc(), WEST.as_bytes())?;
     shelf.write("t", EAST.as_bytes())?;
-    let (ended, _) = ask(&rt, rt.alloc(), "run --side 64 one.vox s t", &mut shelf)?;
-    assert_eq!(rt; ended, 0);
-    for name in ["s.out", "t.out"] {
-        let told = read_transcript(rt.alloc(), shelf.file(name).ok_or("a transcript")?)?;
-        assert!(rt; is_half(told.as_slice()), "at {name}");
+    let line = "run --side 64 one.vox s t";
+    let (ended, _) = ask(&rt, rt.alloc(), line, &mut shelf)?;
+    is_end(line, ended, b"", 0, "")?;
+    has_half(rt.alloc(), &shelf, "s.out")?;
+    has_half(rt.alloc(), &shelf, "t.out")
+}
+
+fn has_half(alloc: Global, shelf: &MemoryShelf, name: &str) -> Result<(), Fail> {
+    let text = shelf.file(name).unwrap_or_default();
+    let told = read_transcript(alloc, text)?;
+    if is_half(told.as_slice()) {
+        return Ok(());
     }
-    Ok(())
+    let text = text.escape_ascii();
+    Err(Fail::new(format_args!("{name} is no half of a bridge: {text}")))
 }
 
 // Nodes go while others find them again: of 2,000 versions two nodes are left.
@@ -127,17 +173,14 @@ fn nodes_are_freed_beside_edits(rt: HostRuntime) -> Result<(), Fail> {
     let mut shelf = shelf_with(rt.alloc(), script.as_slice())?;
     shelf.write("t", script.as_slice())?;
     let printed = "scripts 2 records 2000 marks 0 nodes 2\n";
-    assert!(rt;
-        ends(
-            &rt,
-            rt.alloc(),
-            "run --side 8 one.vox s t",
-            &mut shelf,
-            0,
-            printed
-        )?
-    );
-    Ok(())
+    ends(
+        &rt,
+        rt.alloc(),
+        "run --side 8 one.vox s t",
+        &mut shelf,
+        0,
+        printed,
+    )
 }
 
 // Whether the closed world has one cell, so one record and a node on each of two levels. `None`
@@ -170,7 +213,10 @@ fn a_run_leaves_its_closed_world(rt: HostRuntime) -> Result<(), Fail> {
         ("count one.vox", None),
     ] {
         let left = leaves_its_world(&rt, rt.alloc(), line)?;
-        assert!(rt; left == want, "at {line}");
+        assert!(rt;
+            left == want,
+            "{line}: wanted is {want:?}, found is {left:?}"
+        );
     }
     Ok(())
 }

@@ -73,7 +73,8 @@ fn answered(line: u32, at: u32, answer: Answer) -> LineAnswer {
 
 // The VOX file of a box of one cell, which is set.
 const ONE: [u8; 64] =
-    *b"VOX \x96\0\0\0MAIN\0\0\0\0\x2c\0\0\0SIZE\x0c\0\0\0\0\0\0\0\x01\0\0\0\x01\0\0\0\x01\0\0\0XYZI\x08\0\0\0\0\0\0\0\x01\0\0\0\0\0\0\x01";
+    *b"VOX \x96\0\0\0MAIN\0\0\0\0\x2c\0\0\0SIZE\x0c\0\0\0\0\0\0\0\x01\0\0\0\x01\0\0\0\x01\0\0\0\
+     XYZI\x08\0\0\0\0\0\0\0\x01\0\0\0\0\0\0\x01";
 
 // The second session sees what the first one did, and the saved version is that of its moment.
 #[test]
