@@ -1,5 +1,5 @@
 -- What a closed world tells, by version and by level.
-use Rattle.std.proofs.Common.{◌≡◌, ℕ, ◌+◌, ◌-◌, ◌≤◌, ◌^◌, Option, List, [], ◌∷◌, ◌++◌, take, refl, sym, ◌∙◌, ap, subst, arith, append_assoc}
+use Rattle.std.proofs.Common.{◌≡◌, ℕ, ◌+◌, ◌-◌, ◌<◌, ◌≤◌, ◌^◌, Option, List, [], ◌∷◌, ◌++◌, take, refl, sym, ◌∙◌, ap, subst, arith, append_assoc}
 use Rattle.std.specs.Prelude.{All, Bool, Result, Ok, Err, IfOk}
 use Rattle.std.proofs.lemmas.List.{map_push}
 use Rattle.std.proofs.lemmas.List.Elements.{All-head}
@@ -56,7 +56,15 @@ module _ (t : TableSeen) (closed : Closed) (low : 2 ≤ t.plan.side) (high : t.p
     coloured = coloured;
     numbers = numbers_are (take (top closed.history.side + 1) closed.live)
         (top closed.history.side) (ap (λ (s : ℕ). s - 2) side_is) refl;
+    as_many = ends.live.as_many;
+    above = λ level over. ends.live.above level (past level over);
   }
+    where
+      past : (level : ℕ) → top closed.history.side < level → levels t.plan ≤ level
+      past level over =
+          let over_is : t.plan.side - 2 < level =
+          subst (λ (s : ℕ). s - 2 < level) side_is over in
+          omega (arith, over_is, low)
 
 -- ---- sessions that are given up, or come to the end
 
