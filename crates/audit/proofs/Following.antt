@@ -1,6 +1,6 @@
 -- A record follows those before it where it follows them with no mark, and no mark forbids where it
 -- goes.
-use Rattle.std.proofs.Common.{◌≡◌, ℕ, zero, suc, ◌+◌, ◌<◌, ◌≤◌, Bool, true, false, List, [], ◌∷◌, ◌++◌, length, take, get_or, Option, Some, None, Ok, ◌↔◌, refl, sym, ap, subst, ◌∙◌, inl, inr, ◌⊎◌, arith, length-append, length-take, take_all, take-append-drop}
+use Rattle.std.proofs.Common.{◌≡◌, ℕ, zero, suc, ◌+◌, ◌<◌, ◌≤◌, Bool, true, false, List, [], ◌∷◌, ◌++◌, length, take, get_or, Option, Some, None, Ok, Err, ◌↔◌, refl, sym, ap, subst, ◌∙◌, inl, inr, ◌⊎◌, arith, length-append, length-take, length-take-le, take_all, take-append-drop}
 use Rattle.std.specs.Prelude.{slice_index_or, drop, ◌^◌, All}
 use Rattle.std.proofs.lemmas.List.{take_more, get_or_append_left}
 use Rattle.std.proofs.lemmas.Bool.{cases_order}
@@ -16,7 +16,8 @@ use Rattle.conformance.specs.Answers.{target_at}
 use Rattle.conformance.proofs.LineKinds.{undo_target, redo_target}
 use Rattle.node_words.specs.declared.shares.Full.{Full}
 use Rattle.node_words.specs.Plans.{Layout}
-use Rattle.store_run.specs.Replaying.{ReplayState, Replays, MayFillReplay, MayFillAlong}
+use Rattle.store_run.specs.Replaying.{ReplayState, Replays, RefusesRecord, MayFillReplay, MayFillAlong}
+use Rattle.store_run.specs.declared.replaying.ReplayRefused.TheVariants as replays
 use Rattle.audit.specs.declared.audits.AuditRefused.{AuditRefused}
 use Rattle.audit.specs.declared.audits.AuditRefused.TheVariants as refusals
 use Rattle.audit.specs.Audits.{RefusesAlong}
@@ -132,6 +133,18 @@ step_taken side models marks table before now r false tells fits free replays =
     λ following. replays.0
     (may_unmarked marks table tells (length before + 1) before r.act following.follows)
 
+pub step_full : (s : ReplayState) (marks : List Mark) (table : List (Option Mark))
+    (now : List Record) (r : Record) (full : Full) → TellsMarks marks table
+    → FitsWorld (2 ^ s.plan.side) s.models r.act
+    → FreeBy (target_at s.records (length s.records) r.act) table (length s.records + 1)
+    → RefusesRecord s r (replays.Full full)
+    → Steps (2 ^ s.plan.side) s.models marks s.records r (Err (refusals.Full full)) now
+step_full s marks table now r full tells fits free refused = record {
+  fits = fits;
+  follows = may_marked marks table tells
+      (length s.records + 1) s.records r.act free refused.0;
+}
+
 pub step_forbidden : (side : ℕ) (models : List Content) (marks : List Mark)
     (table : List (Option Mark))
     (before now : List Record) (r : Record) → TellsMarks marks table
@@ -189,6 +202,19 @@ by_cases : {A : Type 0} {B : Type 0} {C : Type 0} → (A → C) → (B → C) �
 by_cases f g (inl a) = f a
 by_cases f g (inr b) = g b
 
+-- one more record follows
+follows_more : (side : ℕ) (models : List Content) (marks : List Mark) (before : List Record)
+    (r : Record) → FollowEach side models marks before → IsFollowing side models marks before r
+    → FollowEach side models marks (before ++ r ∷ [])
+follows_more side models marks before r so_far following =
+    let number : length before + 1 ≡ 1 + length before = omega arith in
+    record {
+      fit = All-push (λ s. FitsWorld side models s.act) before r so_far.fit following.fits;
+      follow = follows_on marks 1 beginning before r so_far.follow
+          (subst (λ (m : ℕ). MayFollow marks m r.act
+          (position_after before)) number following.follows);
+    }
+
 -- how far the replay has come
 pub record HasReplayed (side : ℕ) (models : List Content) (marks : List Mark)
     (records : List Record)
@@ -241,17 +267,11 @@ pub replayed_more : (side : ℕ) (models : List Content) (marks : List Mark)
     → w ≡ ways_at replayed (length replayed) → IsFollowing side models marks replayed r
     → now ≡ replayed ++ r ∷ [] → HasReplayed side models marks records (i + 1) now (ways ++ w ∷ [])
 replayed_more side models marks records replayed now i ways w r d so_far lt is told following more =
-    let number : length replayed + 1 ≡ 1 + length replayed = omega arith in
     record {
       are = more ∙ ap (λ (rs : List Record). rs ++ r ∷ []) so_far.are
           ∙ ap (λ (x : Record). take i records ++ x ∷ []) is ∙ sym (take_more records i d lt);
-      follow = subst (λ (rs : List Record). FollowEach side models marks rs) (sym more) (record {
-        fit = All-push
-            (λ s. FitsWorld side models s.act) replayed r so_far.follow.fit following.fits;
-        follow = follows_on marks 1 beginning replayed r so_far.follow.follow
-            (subst (λ (m : ℕ). MayFollow marks m r.act
-            (position_after replayed)) number following.follows);
-      });
+      follow = subst (λ (rs : List Record). FollowEach side models marks rs) (sym more)
+          (follows_more side models marks replayed r so_far.follow following);
       as_many = length-append ways (w ∷ []) ∙ ap (λ (k : ℕ). k + 1) so_far.as_many;
       each = each_more records ways i w so_far.as_many so_far.each
           (told ∙ ways_same records replayed i so_far.are (omega arith));
@@ -312,30 +332,51 @@ any_record = record {
 
 -- ---- a record that was refused
 
--- what a record needs behind the first ones is needed along all
-pub filled_along : (p : Layout) (models : List Content) (records replayed : List Record) (i : ℕ)
-    (r d : Record) (full : Full) → replayed ≡ take i records → i < length records
-    → r ≡ get_or records i d → MayFillReplay p models (replayed ++ r ∷ []) full
-    → MayFillAlong p models records full
-filled_along p models records replayed i r d full are lt is fills = record {
-  first = take (i + 1) records;
-  rest = drop (i + 1) records;
-  begins = sym (take-append-drop (i + 1) records);
-  fills = subst (λ (rs : List Record). MayFillReplay p models rs full)
-      (ap (λ (rs : List Record). rs ++ r ∷ []) are
-      ∙ ap (λ (x : Record). take i records ++ x ∷ []) is ∙ sym (take_more records i d lt)) fills;
-}
+-- what a record that can follow the first ones needs behind them is needed along all
+pub filled_along : (p : Layout) (models : List Content) (marks : List Mark)
+    (records replayed : List Record) (i : ℕ) (ways : List Ways)
+    (r d : Record) (full : Full) → HasReplayed (2 ^ p.side) models marks records i replayed ways
+    → i < length records → length records ≤ 65535
+    → r ≡ get_or records i d → IsFollowing (2 ^ p.side) models marks replayed r
+    → MayFillReplay p models (replayed ++ r ∷ []) full
+    → MayFillAlong p models marks records full
+filled_along p models marks records replayed i ways r d full so_far lt few is following fills =
+    let next : List Record = take (i + 1) records in
+    let more = follows_more (2 ^ p.side) models marks replayed r so_far.follow following in
+    let are : replayed ++ r ∷ [] ≡ next =
+    ap (λ (rs : List Record). rs ++ r ∷ []) so_far.are
+    ∙ ap (λ (x : Record). take i records ++ x ∷ []) is ∙ sym (take_more records i d lt) in
+    let follow = subst (λ (rs : List Record). FollowEach (2 ^ p.side) models marks rs) are more in
+    record {
+      first = next;
+      rest = drop (i + 1) records;
+      begins = sym (take-append-drop (i + 1) records);
+      legal = record {
+        few = (let long = length-take-le (i + 1) records (omega (arith, lt)) in
+            omega (arith, long, lt, few));
+        fit = follow.fit;
+        follow = follow.follow;
+      };
+      fills = subst (λ (rs : List Record). MayFillReplay p models rs full) are fills;
+    }
 
-pub refused_along : (p : Layout) (s : ReplayState) (models : List Content) (records : List Record)
-    (i : ℕ)
+pub refused_along : (p : Layout) (s : ReplayState) (models : List Content) (marks : List Mark)
+    (records now : List Record) (i : ℕ) (ways : List Ways)
     (r d : Record) (refused : AuditRefused) → s.plan ≡ p → s.models ≡ models
-    → s.records ≡ take i records → i < length records → r ≡ get_or records i d
-    → RefusesNext s r refused → RefusesAlong p models records refused
-refused_along p s models records i r d (refusals.Full full) plan same are lt is fills =
-    filled_along p models records s.records i r d full are lt is
+    → HasReplayed (2 ^ p.side) models marks records i s.records ways
+    → i < length records → length records ≤ 65535 → r ≡ get_or records i d
+    → Steps (2 ^ s.plan.side) s.models marks s.records r (Err refused) now
+    → RefusesNext s r refused → RefusesAlong p models marks records refused
+refused_along p s models marks records now i ways r d (refusals.Full full) plan same so_far lt few
+    is following fills =
+    filled_along p models marks records s.records i ways r d full so_far lt few is
+    (subst (λ (q : Layout). IsFollowing (2 ^ q.side) models marks s.records r) plan
+    (subst (λ (ms : List Content). IsFollowing (2 ^ s.plan.side) ms marks s.records r)
+    same following))
     (subst (λ (q : Layout). MayFillReplay q models (s.records ++ r ∷ []) full) plan
     (subst (λ (ms : List Content). MayFillReplay s.plan ms (s.records ++ r ∷ []) full) same fills))
-refused_along p s models records i r d refusals.Memory plan same are lt is fills = tt
+refused_along p s models marks records now i ways r d refusals.Memory plan same so_far lt few is
+    following fills = tt
 
 -- ---- by the plan and the models with which the replay began
 

@@ -80,11 +80,12 @@ pub audited_by_plan : (keep : ℕ) (p q : Layout) (models : List Content) (log :
 audited_by_plan keep p q models log scripts transcripts answer same both =
     subst (λ (r : Layout). answer ↔ IsAudited keep r models log scripts transcripts) same both
 
-pub refused_all : (p q : Layout) (models : List Content) (records : List Record)
-    (result : Result Bool AuditRefused) → p ≡ q → IfErr result (RefusesAlong p models records)
-    → IfErr result (RefusesAlong q models records)
-refused_all p q models records result same refuses =
-    subst (λ (r : Layout). IfErr result (RefusesAlong r models records)) same refuses
+pub refused_all : (p q : Layout) (models : List Content) (marks : List Mark)
+    (records : List Record)
+    (result : Result Bool AuditRefused) → p ≡ q → IfErr result (RefusesAlong p models marks records)
+    → IfErr result (RefusesAlong q models marks records)
+refused_all p q models marks records result same refuses =
+    subst (λ (r : Layout). IfErr result (RefusesAlong r models marks records)) same refuses
 
 -- ---- by the state with which a replay begins
 
@@ -118,9 +119,11 @@ pub suits_begun : (s : ReplayState) (tint : Bool) (records : List Record) → s.
 suits_begun s tint records same all =
     subst (λ (b : Bool). All (λ (r : Record). suits_tints b r.act ≡ true) records) (sym same) all
 
-pub refused_begun : (s : ReplayState) (p : Layout) (models : List Content) (records : List Record)
+pub refused_begun : (s : ReplayState) (p : Layout) (models : List Content) (marks : List Mark)
+    (records : List Record)
     (refused : AuditRefused) → s.plan ≡ p → s.models ≡ models
-    → RefusesAlong s.plan s.models records refused → RefusesAlong p models records refused
-refused_begun s p models records refused plan same refuses =
-    subst (λ (q : Layout). RefusesAlong q models records refused) plan
-    (subst (λ (ms : List Content). RefusesAlong s.plan ms records refused) same refuses)
+    → RefusesAlong s.plan s.models marks records refused
+    → RefusesAlong p models marks records refused
+refused_begun s p models marks records refused plan same refuses =
+    subst (λ (q : Layout). RefusesAlong q models marks records refused) plan
+    (subst (λ (ms : List Content). RefusesAlong s.plan ms marks records refused) same refuses)

@@ -1,6 +1,7 @@
 -- What an audit of a journal, scripts and transcripts answers.
 use Rattle.std.specs.Prelude.{ℕ, ◌^◌, List, replicate, Option, Some, None, ⊤}
 use Rattle.history_model.specs.Contents.{Content}
+use Rattle.history_model.specs.declared.histories.Mark.{Mark}
 use Rattle.history_model.specs.declared.histories.Record.{Record}
 use Rattle.history_model.specs.Logs.{Log, IsLegal, SuitsTints}
 use Rattle.node_words.specs.Plans.{Layout, usual_buckets}
@@ -30,9 +31,11 @@ judged_by side (Some buckets) =
     record { side = side; buckets = replicate 11 buckets; cap = 128 }
 
 -- what a refusal says: want of memory says nothing
-abbrev pub RefusesAlong : Layout → List Content → List Record → AuditRefused → Type 0
-RefusesAlong p models records (refusals.Full full) = MayFillAlong p models records full
-RefusesAlong p models records refusals.Memory = ⊤
+abbrev pub RefusesAlong : Layout → List Content → List Mark → List Record → AuditRefused
+    → Type 0
+RefusesAlong p models marks records (refusals.Full full) = MayFillAlong p models marks records full
+RefusesAlong p models marks records refusals.Memory = ⊤
 
 abbrev pub RefusesAudit : List Content → Log → AuditRefused → Type 0
-RefusesAudit models log refused = RefusesAlong (replay_plan log.side) models log.records refused
+RefusesAudit models log refused =
+    RefusesAlong (replay_plan log.side) models log.marks log.records refused

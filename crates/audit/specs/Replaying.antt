@@ -43,7 +43,9 @@ abbrev pub Steps : ℕ → List Content → List Mark → List Record → Record
 Steps side models marks before r (Ok true) new =
     IsFollowing side models marks before r × (new ≡ before ++ r ∷ [])
 Steps side models marks before r (Ok false) new = IsFollowing side models marks before r → ⊥
-Steps side models marks before r (Err refused) new = ⊤
+Steps side models marks before r (Err (refusals.Full full)) new =
+    IsFollowing side models marks before r
+Steps side models marks before r (Err refusals.Memory) new = ⊤
 
 -- no mark forbids record n to go to this version
 abbrev pub FreeBy : Option ℕ → List (Option Mark) → ℕ → Type 0

@@ -115,7 +115,8 @@ fn audit_over<L: Ledger>(
     requires some { 0 < L.parts }
     ensures answer { IfOk result (λ answer. IsTrue answer
         ↔ IsAudited keep judged.now models log.now scripts.now transcripts.now) }
-    ensures refused { IfErr result (RefusesAlong replayed.now models log.now.records) }
+    ensures refused { IfErr result
+        (RefusesAlong replayed.now models log.now.marks log.now.records) }
 {
     if !acts_suit(log.records.as_slice(), log.coloured) {
         return Ok(false);
@@ -174,7 +175,8 @@ fn run_again<L: Ledger>(
         (λ r. IsLegal (2 ^ log.now.side) models log.now
         × IsRerun log.now r.replay r.ways.items r.table.items
         × (r.replay.models ≡ models))) }
-    ensures refused { IfErr result (RefusesAlong replayed.now models log.now.records) }
+    ensures refused { IfErr result
+        (RefusesAlong replayed.now models log.now.marks log.now.records) }
 {
     match marks_told(alloc, log, &models) {
         Ok(Some(table)) => run_over(alloc, log, models, replayed, blank, table),
@@ -206,7 +208,8 @@ fn run_over<L: Ledger>(
         (λ r. IsLegal (2 ^ log.now.side) models log.now
         × IsRerun log.now r.replay r.ways.items r.table.items
         × (r.replay.models ≡ models))) }
-    ensures refused { IfErr result (RefusesAlong replayed.now models log.now.records) }
+    ensures refused { IfErr result
+        (RefusesAlong replayed.now models log.now.marks log.now.records) }
 {
     let records = log.records.as_slice();
     let tint = log.coloured;

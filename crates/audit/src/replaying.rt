@@ -37,8 +37,9 @@ pub(crate) fn replay_all<L: Ledger>(
     ensures plan { replay.new.plan ≡ replay.old.plan }
     ensures tint { replay.new.tint ≡ replay.old.tint }
     ensures models { replay.new.models ≡ replay.old.models }
-    ensures refused { IfErr result
-        (RefusesAlong replay.old.plan replay.old.models records.now) }
+    ensures refused { let s = replay.old in
+        (marks : List Mark) → TellsMarks marks table.now
+        → IfErr result (RefusesAlong s.plan s.models marks records.now) }
     ensures all { let s = replay.old in
         (marks : List Mark) → TellsMarks marks table.now → IfOk result
         (λ ways. MatchOption ways

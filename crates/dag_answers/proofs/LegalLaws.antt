@@ -8,7 +8,8 @@ use Rattle.history_model.specs.declared.histories.Mark.{Mark}
 use Rattle.history_model.specs.declared.histories.Record.{Record}
 use Rattle.history_model.specs.Logs.{Log, FitsWorld, MayFollow, MayFollowFrom, IsLegal}
 use Rattle.history_model.specs.Positions.{Position, beginning, next_position, position_from, position_after}
-use Rattle.dag_answers.specs.Legality.{AreLegalRecords, IsFirstIllegal}
+use Rattle.store_run.specs.Replaying.{AreLegalRecords}
+use Rattle.dag_answers.specs.Legality.{IsFirstIllegal}
 use Rattle.store_run.specs.Marked.{AreLegalMarks}
 
 pub all_front : {X : Type 0} (P : X → Type 0) (xs ys : List X) → All P (xs ++ ys) → All P xs

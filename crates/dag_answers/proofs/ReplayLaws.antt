@@ -18,10 +18,9 @@ use Rattle.store_run.specs.Changing.{LogGainsMark, log_with_record}
 use Rattle.store_run.specs.Marked.{AreLegalMarks, replayed}
 use Rattle.store_run.specs.declared.replaying.ReplayRefused.{ReplayRefused}
 use Rattle.store_run.specs.declared.replaying.ReplayRefused.TheVariants as replays
-use Rattle.store_run.specs.Replaying.{MakesOnlyParts, MayFillReplay, RefusesRecord, replay_plan}
+use Rattle.store_run.specs.Replaying.{AreLegalRecords, MakesOnlyParts, MayFillReplay, RefusesRecord, replay_plan}
 use Rattle.store_run.specs.Worlds.{WorldState}
 use Rattle.dag_answers.specs.Histories.{RefusesHistory, of_replay}
-use Rattle.dag_answers.specs.Legality.{AreLegalRecords}
 use Rattle.dag_answers.specs.Replays.{AreDue, HasReplayed}
 use Rattle.dag_answers.proofs.LegalLaws.{ComesNext, legal_front, legal_last}
 
@@ -167,10 +166,13 @@ module _ (models : List Content) (log : Log) (due : List Mark) (of_due : AreDue 
           first = next;
           rest = drop (n + 1) log.records;
           begins = sym (take-append-drop (n + 1) log.records);
+          legal = legal_front (2 ^ log.side) models log.marks next (drop (n + 1) log.records)
+              (subst (λ (rs : List Record). AreLegalRecords (2 ^ log.side) models log.marks rs)
+              (sym (take-append-drop (n + 1) log.records)) legal);
           fills =
               subst (λ (p : Layout). MayFillReplay p models next full) plan
               (subst (λ (ms : List Content). MayFillReplay now.plan ms next full) has.models_are
-              (subst (λ (rs : List Record). MayFillReplay now.plan now.models rs full) are fills));
+              (subst (λ (rs : List Record). MayFillReplay now.plan now.models rs full) are fills.1));
         },
       )
   refuses_next n k now d replays.Memory has lt legal plan fills = tt

@@ -6,11 +6,11 @@ use Rattle.history_model.specs.Stores.{store_has}
 use Rattle.core_laws.specs.contents.Versions.{IsKept, SameWorld}
 use Rattle.store_run.specs.declared.replaying.ReplayRefused.{ReplayRefused}
 use Rattle.store_run.specs.declared.replaying.ReplayRefused.TheVariants as replays
-use Rattle.store_run.specs.Replaying.{MayFillAlong, replay_plan}
+use Rattle.store_run.specs.Replaying.{AreLegalRecords, MayFillAlong, replay_plan}
 use Rattle.dag_file.specs.Kept.{AreBytes}
 use Rattle.dag_file.specs.Rules.{IsDagFile}
 use Rattle.dag_file.specs.Trees.{IsVersion, HasVersion}
-use Rattle.dag_answers.specs.Legality.{AreLegalRecords, IsFirstIllegal}
+use Rattle.dag_answers.specs.Legality.{IsFirstIllegal}
 use Rattle.dag_answers.specs.Looks.{version_has}
 use Rattle.dag_answers.specs.declared.making.HistoryRefused.{HistoryRefused}
 use Rattle.dag_answers.specs.declared.making.HistoryRefused.TheVariants as refusals
@@ -30,7 +30,7 @@ abbrev pub RefusesHistory : List Content → Log → HistoryRefused → Type 0
 RefusesHistory models log (refusals.Illegal n) = IsFirstIllegal (2 ^ log.side) models log n
 RefusesHistory models log (refusals.Full full) =
     AreLegalRecords (2 ^ log.side) models log.marks log.records
-    × MayFillAlong (replay_plan log.side) models log.records full
+    × MayFillAlong (replay_plan log.side) models log.marks log.records full
 RefusesHistory models log refusals.Memory = ⊤
 
 abbrev pub of_replay : ReplayRefused → HistoryRefused

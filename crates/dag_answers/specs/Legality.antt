@@ -1,18 +1,12 @@
 -- The first record of a history that breaks the rules of a legal one.
-use Rattle.std.specs.Prelude.{◌≡◌, ◌↔◌, ℕ, ◌+◌, ◌^◌, ◌<◌, ◌≤◌, List, [], ◌∷◌, ◌++◌, length, slice_index, All, Option, Some, None}
+use Rattle.std.specs.Prelude.{◌≡◌, ◌↔◌, ℕ, ◌+◌, ◌^◌, ◌<◌, ◌≤◌, List, [], ◌∷◌, ◌++◌, length, slice_index, Option, Some, None}
 use Rattle.vox_read.specs.Contents.{Content}
 use Rattle.history_model.specs.declared.acts.Act.{Act}
 use Rattle.history_model.specs.declared.histories.Mark.{Mark}
 use Rattle.history_model.specs.declared.histories.Record.{Record}
-use Rattle.history_model.specs.Logs.{Log, FitsWorld, IsVersionHeld, MayFollow, MayFollowFrom}
-use Rattle.history_model.specs.Positions.{Position, beginning}
-
--- the rules of a legal history that its records keep, with these marks
-pub record AreLegalRecords (side : ℕ) (models : List Content) (marks : List Mark)
-    (records : List Record) : Type 0 where
-  pub few : length records ≤ 65535
-  pub fit : All (λ r. FitsWorld side models r.act) records
-  pub follow : MayFollowFrom marks 1 beginning records
+use Rattle.history_model.specs.Logs.{Log, FitsWorld, IsVersionHeld, MayFollow}
+use Rattle.history_model.specs.Positions.{Position}
+use Rattle.store_run.specs.Replaying.{AreLegalRecords}
 
 -- records up to the one before it keep the rules, and with it they don't
 pub record IsFirstIllegal (side : ℕ) (models : List Content) (log : Log) (n : ℕ) : Type 0 where

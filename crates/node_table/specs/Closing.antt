@@ -1,7 +1,7 @@
 -- What a table leaves that is closed.
-use Rattle.std.specs.Prelude.{◌≡◌, ◌≢◌, ℕ, ◌<◌, ◌≤◌, false, Some, None, List, [], ◌∷◌, ◌++◌, map, length, slice_index, All}
+use Rattle.std.specs.Prelude.{◌≡◌, ◌≢◌, ℕ, ◌^◌, ◌<◌, ◌≤◌, false, Some, None, List, [], ◌∷◌, ◌++◌, map, length, slice_index, All}
 use Rattle.std.specs.List.{AllPairs, Contains, slice_get, sum_by}
-use Rattle.history_model.specs.Logs.{Log}
+use Rattle.history_model.specs.Logs.{Log, IsLegal}
 use Rattle.history_model.specs.declared.histories.Mark.{Mark}
 use Rattle.table_rule.specs.LogKnowing.{IsPrefix, WasFound, numbered_from}
 use Rattle.table_rule.specs.Listing.{Accepted, Found}
@@ -91,3 +91,11 @@ pub record TellsAll (history : Log) (passes : List PassSeen) : Type 0 where
   pub marks : (f : Mark → ℕ) → sum_by f (all_marks (views_of passes)) ≡ sum_by f history.marks
   pub found : (k : ℕ) (s : PassSeen) → slice_get passes k ≡ Some s → (f : Found)
       → Contains s.view.log.found f → WasFound history f
+
+-- the passes have one history of them all: it is legal, and of whatever met a full bucket they
+-- together have made enough other shapes
+pub record HaveHistory (t : TableSeen) (passes : List PassSeen) : Type 0 where
+  pub log : Log
+  pub legal : IsLegal (2 ^ t.plan.side) t.models log
+  pub tells : TellsAll log passes
+  pub enough : HadEnough t.plan passes

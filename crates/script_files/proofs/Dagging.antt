@@ -22,7 +22,8 @@ use Rattle.script_files.specs.declared.requests.Request.TheVariants.{Dag}
 use Rattle.script_files.specs.declared.tallies.Done.TheVariants.{Written}
 use Rattle.dag_answers.specs.declared.making.HistoryRefused.TheVariants as histories
 use Rattle.dag_answers.specs.Histories.{IsFileOfHistory, RefusesHistory}
-use Rattle.dag_answers.specs.Legality.{AreLegalRecords, IsFirstIllegal}
+use Rattle.dag_answers.specs.Replaying.{AreLegalRecords}
+use Rattle.dag_answers.specs.Legality.{IsFirstIllegal}
 use Rattle.dag_answers.proofs.LegalLaws.{legal_whole}
 use Rattle.dag_answers.proofs.ToldLaws.{told_marks}
 use Rattle.script_files.specs.Dags.{GivesHistory, MakesDag, FillsReplay, RefusesDagging, LacksHistory, journal_in}

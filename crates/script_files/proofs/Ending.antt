@@ -27,6 +27,7 @@ use Rattle.conformance.specs.sessions.Seen.{SessionSeen}
 use Rattle.conformance.proofs.OfSessions.Closing.{are_a_run}
 use Rattle.conformance.proofs.OfSessions.KeptWorlds.{saved_stay}
 use Rattle.conformance.proofs.OfSessions.SuitLaws.{history_suits}
+use Rattle.world_run.specs.Closes.{HadHistory}
 use Rattle.world_run.specs.Ends.{IsEndOf}
 use Rattle.world_run.specs.Open.{RunState, file_of_save}
 use Rattle.script_files.specs.declared.tallies.RunWritten.{RunWritten}
@@ -48,11 +49,11 @@ use Rattle.script_files.specs.declared.scripts.Read.{Read}
 use Rattle.script_files.specs.Orders.{Asked}
 use Rattle.script_files.specs.Refusals.{output_name}
 use Rattle.script_files.specs.Scripts.{AreFitScripts}
-use Rattle.script_files.specs.Reports.{ReportIs, BeginsFirst, BeginsTexts}
+use Rattle.script_files.specs.Reports.{ReportIs, BeginsTexts}
 use Rattle.script_files.specs.Requests.{RunOutputs, given_seen, given_by, inputs_of, named_texts, transcript_name, save_file, saved_output, wanted_output, written_first, written_last, texts_written}
-use Rattle.script_files.specs.Meanings.{file_in, IsAccepted, TalliesRun, RefusesTexts, SessionsBegan, ScriptsBegan}
+use Rattle.script_files.specs.Meanings.{file_in, IsAccepted, TalliesRun, RefusesTexts, ScriptsBegan}
 use Rattle.script_files.specs.Outcomes.{Outcome}
-use Rattle.script_files.specs.Stages.{CountsFile, JournalIs, ReadsInputs, given_of, ClosesRun, TellsClosedRun, HistoryTexts, AreTexts, WroteHistory, StopsOpen, StopsClosed, WritesClosed, WritesHistory, WroteRun, BeginsClosed, StopsRun, WritesRun}
+use Rattle.script_files.specs.Stages.{CountsFile, JournalIs, ReadsInputs, given_of, ClosesRun, TellsClosedRun, HistoryTexts, AreTexts, WroteHistory, StopsOpen, StopsClosed, WritesClosed, WritesHistory, WroteRun, BeginsRun, StopsRun, WritesRun}
 use Rattle.world_run.proofs.Accepting.{saves_fit}
 use Rattle.script_files.proofs.SavedFiles.{IsGood, save_same}
 use Rattle.script_files.proofs.Writing.{both_written, stops_after, stops_before, stops_at_once}
@@ -148,8 +149,10 @@ nothing_began asked r closed refused state closes is = record {
 }
 
 pub not_closed : (asked : Asked) (r : RunState) (refused : OutputRefused) (state : ShelfState)
-    → refused.why ≡ Memory → WritesHistory asked r (Err refused) state state
-not_closed asked r refused state is = inl (record {
+    → refused.why ≡ Memory → HadHistory r.tint r.plan r.models r.sessions
+    → WritesHistory asked r (Err refused) state state
+not_closed asked r refused state is had = inl (record {
+  had = had;
   stops = stops_at_once refused.why (output_name refused.name) [] state.files state.faults is;
 })
 
@@ -245,31 +248,44 @@ module _ (asked : Asked) (run : ScriptsRun) (old : ShelfState) where
   files_saved = map (saved_output given.file) given.kept
 
   -- some first ones of these
-  began_first : (r : OutputRefused) (new : ShelfState)
+  began_first : HadHistory run.run.tint run.run.plan run.run.models run.run.sessions
+      → (r : OutputRefused) (new : ShelfState)
       → StopsWith r.why (output_name r.name) (written_first asked given) old.files new.files
       old.faults new.faults
       → StopsRun asked run r old new
-  began_first r new stops = record {
+  began_first had r new stops = record {
     outputs = written_first asked given;
-    begins = inl (record { rest = []; parts = append-nil (written_first asked given) });
+    begins = record {
+      log = had.log;
+      closes = had.closes;
+      begins = record {
+        report = [];
+        rest = written_last asked had.log [];
+        parts = refl;
+        reported = no_report (wanted_output asked.journal (journal_of had.log)) asked.report
+            given.models had.log;
+      };
+    };
     stops = stops;
   }
 
-  pub stops_in_texts : (r : OutputRefused) (new : ShelfState)
+  pub stops_in_texts : HadHistory run.run.tint run.run.plan run.run.models run.run.sessions
+      → (r : OutputRefused) (new : ShelfState)
       → StopsWith r.why (output_name r.name) texts_named old.files new.files old.faults new.faults
       → StopsRun asked run r old new
-  stops_in_texts r new stops =
-      began_first r new
+  stops_in_texts had r new stops =
+      began_first had r new
       (stops_before r.why (output_name r.name) texts_named files_saved old.files new.files
       old.faults new.faults stops)
 
   module _ (mid : ShelfState) (texts_whole : AreWritten texts_named old.files mid.files)
       (texts_calm : mid.faults ≡ old.faults) where
-    pub stops_in_files : (r : OutputRefused) (new : ShelfState)
+    pub stops_in_files : HadHistory run.run.tint run.run.plan run.run.models run.run.sessions
+        → (r : OutputRefused) (new : ShelfState)
         → StopsWith r.why (output_name r.name) files_saved mid.files new.files mid.faults new.faults
         → StopsRun asked run r old new
-    stops_in_files r new stops =
-        began_first r new
+    stops_in_files had r new stops =
+        began_first had r new
         (stops_after r.why (output_name r.name) texts_named files_saved old.files mid.files
         new.files old.faults mid.faults new.faults texts_whole texts_calm stops)
 
@@ -280,10 +296,11 @@ module _ (asked : Asked) (run : ScriptsRun) (old : ShelfState) where
           both_written texts_named files_saved old.files mid.files late.files texts_whole
           files_whole
 
-      stops_in_closing : (r : OutputRefused) (new : ShelfState) → StopsOpen r late new
+      stops_in_closing : (r : OutputRefused) (new : ShelfState)
+          → StopsOpen run.run r late new
           → StopsRun asked run r old new
       stops_in_closing r new h =
-          began_first r new
+          began_first h.had r new
           (subst (λ (os : List Named). StopsWith r.why (output_name r.name) os old.files new.files
           old.faults new.faults) (append-nil (written_first asked given))
           (stops_after r.why (output_name r.name) (written_first asked given) [] old.files
@@ -294,9 +311,9 @@ module _ (asked : Asked) (run : ScriptsRun) (old : ShelfState) where
           → StopsClosed asked run.run r late new → StopsRun asked run r old new
       stops_in_history r new h = record {
         outputs = written_first asked given ++ h.outputs;
-        begins = inr (record {
-          closed = h.closed;
-          closes = h.closes;
+        begins = record {
+          log = h.closed.history;
+          closes = h.closes.closes;
           begins = record {
             report = h.report;
             rest = h.rest;
@@ -305,7 +322,7 @@ module _ (asked : Asked) (run : ScriptsRun) (old : ShelfState) where
                 ∙ ap (λ (os : List Named). written_first asked given ++ os) h.parts;
             reported = h.reported;
           };
-        });
+        };
         stops =
             stops_after r.why (output_name r.name) (written_first asked given) h.outputs old.files
             late.files new.files old.faults late.faults new.faults first_whole
@@ -404,56 +421,58 @@ module _ (asked : Asked) (models : List Content) (lines : List (List ScriptLine)
     file = file_of_save (tint_is i) (models_are i);
   }
 
-  module _ (closed : Closed) (closes : ClosesRun run.run closed) where
-    pub closes_world : ClosesWorld asked.tint asked.plan models run.run.sessions closed.history
+  pub ends_world : (closed : Closed) → ClosesRun run.run closed
+      → IsEndOf asked.tint models closed.history closed
+  ends_world closed closes =
+      subst (λ (c : Bool). IsEndOf c models closed.history closed) tint_is
+      (subst (λ (ms : List Content). IsEndOf run.run.tint ms closed.history closed) models_are
+      closes.is_end)
+
+  module _ (log : Log)
+      (closes : ClosesWorld run.run.tint run.run.plan run.run.models run.run.sessions log) where
+    pub closes_world : ClosesWorld asked.tint asked.plan models run.run.sessions log
     closes_world =
-        subst (λ (c : Bool). ClosesWorld c asked.plan models run.run.sessions closed.history) tint_is
-        (subst (λ (p : Layout). ClosesWorld run.run.tint p models run.run.sessions closed.history)
+        subst (λ (c : Bool). ClosesWorld c asked.plan models run.run.sessions log) tint_is
+        (subst (λ (p : Layout). ClosesWorld run.run.tint p models run.run.sessions log)
         plan_is
         (subst (λ (ms : List Content). ClosesWorld run.run.tint run.run.plan ms run.run.sessions
-        closed.history) models_are closes.closes))
-
-    pub ends_world : IsEndOf asked.tint models closed.history closed
-    ends_world =
-        subst (λ (c : Bool). IsEndOf c models closed.history closed) tint_is
-        (subst (λ (ms : List Content). IsEndOf run.run.tint ms closed.history closed) models_are
-        closes.is_end)
+        log) models_are closes))
 
     -- the history is coloured where tints were asked for
-    pub is_coloured : closed.history.coloured ≡ asked.tint
+    pub is_coloured : log.coloured ≡ asked.tint
     is_coloured = closes_world.coloured
 
     pub is_run : AllRanKeeping asked.keep asked.plan models lines run.transcripts.items
-        closed.history
+        log
     is_run =
         are_a_run asked.keep asked.tint asked.plan models lines run.transcripts.items run.run.sessions
-        closed.history ran closes_world
+        log ran closes_world
 
     pub written_same : written_first asked (given_of run)
         ≡ written_first asked
-        (given_by asked.tint models lines closed.history run.transcripts.items)
+        (given_by asked.tint models lines log run.transcripts.items)
     written_same =
         ap (λ (g : RunOutputs). written_first asked g) given_same
-        ∙ first_same asked models lines run.transcripts.items run.run.sessions closed.history fits
+        ∙ first_same asked models lines run.transcripts.items run.run.sessions log fits
         ran closes_world
 
-    pub texts_same : (report : List ℕ) → texts_written asked (given_of run) closed.history report
+    pub texts_same : (report : List ℕ) → texts_written asked (given_of run) log report
         ≡ texts_written asked
-        (given_by asked.tint models lines closed.history run.transcripts.items)
-        closed.history report
+        (given_by asked.tint models lines log run.transcripts.items)
+        log report
     texts_same report =
-        ap (λ (os : List Named). os ++ written_last asked closed.history report) written_same
+        ap (λ (os : List Named). os ++ written_last asked log report) written_same
 
     pub begins_same : (outputs : List Named)
-        → BeginsTexts asked (given_of run) closed.history outputs
-        → BeginsTexts asked (given_by asked.tint models lines closed.history run.transcripts.items)
-        closed.history outputs
+        → BeginsTexts asked (given_of run) log outputs
+        → BeginsTexts asked (given_by asked.tint models lines log run.transcripts.items)
+        log outputs
     begins_same outputs b = record {
       report = b.report;
       rest = b.rest;
       parts = b.parts ∙ texts_same b.report;
       reported = λ none. subst (λ (ms : List Content).
-          ReportIs asked.report ms closed.history b.report) models_are (b.reported none);
+          ReportIs asked.report ms log b.report) models_are (b.reported none);
     }
 
 -- ---- `run`
@@ -468,18 +487,19 @@ module _ (asked : Asked) (texts : List (List ℕ)) (r : Read) (run : ScriptsRun)
     (kept : run.run.kept ≡ kept_of r.scripts.items run.transcripts.items run.run.sessions)
     (fits : AreFitScripts asked.tint asked.plan.side r.models r.scripts.items)
     (same : mid ≡ old) where
-  abbrev accepts : (closed : Closed) → ClosesRun run.run closed
-      → IsAccepted asked texts closed.history run.transcripts.items
-  accepts closed closes = record {
+  abbrev accepts : (log : Log)
+      → ClosesWorld run.run.tint run.run.plan run.run.models run.run.sessions log
+      → IsAccepted asked texts log run.transcripts.items
+  accepts log closes = record {
     models = r.models;
     gives = read.gives;
     lines = r.scripts.items;
     read = read.read;
     apart = read.apart;
-    run = is_run asked r.models r.scripts.items run ran plan_is tint_is models_are kept fits closed
+    run = is_run asked r.models r.scripts.items run ran plan_is tint_is models_are kept fits log
         closes;
     coloured = is_coloured asked r.models r.scripts.items run ran plan_is tint_is models_are kept
-        fits closed closes;
+        fits log closes;
   }
 
   pub run_written : (tally : Tally) (closed : Closed) → WroteRun asked run tally closed mid new
@@ -495,7 +515,7 @@ module _ (asked : Asked) (texts : List (List ℕ)) (r : Read) (run : ScriptsRun)
           gives = record {
             log = closed.history;
             transcripts = run.transcripts.items;
-            accepted = accepts closed w.closes;
+            accepted = accepts closed.history w.closes.closes;
             ends = ends_world asked r.models r.scripts.items run ran plan_is tint_is models_are kept
                 fits closed w.closes;
             tallied = subst (λ (ms : List Content). TalliesRun asked ms closed.history tally)
@@ -504,35 +524,22 @@ module _ (asked : Asked) (texts : List (List ℕ)) (r : Read) (run : ScriptsRun)
             reported = subst (λ (ms : List Content).
                 ReportIs asked.report ms closed.history w.report) models_are w.reported;
             are = texts_same asked r.models r.scripts.items run ran plan_is tint_is models_are kept
-                fits closed w.closes w.report;
+                fits closed.history w.closes.closes w.report;
           };
         };
         whole = w.whole;
         no_fault = w.calm;
       }
 
-  run_begun : (outputs : List Named)
-      → BeginsFirst asked (given_of run) outputs ⊎ BeginsClosed asked run outputs
-      → SessionsBegan asked texts outputs ⊎ ScriptsBegan asked texts outputs
-  run_begun outputs (inl b) = inl (record {
-    models = r.models;
-    gives = read.gives;
-    lines = r.scripts.items;
-    read = read.read;
-    apart = read.apart;
+  run_begun : (outputs : List Named) → BeginsRun asked run outputs
+      → ScriptsBegan asked texts outputs
+  run_begun outputs b = record {
+    log = b.log;
     transcripts = run.transcripts.items;
-    sessions = run.run.sessions;
-    ran = ran;
-    begins = subst (λ (g : RunOutputs). BeginsFirst asked g outputs)
-        (given_same asked r.models r.scripts.items run ran plan_is tint_is models_are kept fits) b;
-  })
-  run_begun outputs (inr b) = inr (record {
-    log = b.closed.history;
-    transcripts = run.transcripts.items;
-    accepted = accepts b.closed b.closes;
+    accepted = accepts b.log b.closes;
     begins = begins_same asked r.models r.scripts.items run ran plan_is tint_is models_are kept fits
-        b.closed b.closes outputs b.begins;
-  })
+        b.log b.closes outputs b.begins;
+  }
 
   pub run_stopped : (refused : OutputRefused) → StopsRun asked run refused mid new
       → Outcome (Err (Output refused)) (Run asked) old new

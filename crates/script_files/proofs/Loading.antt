@@ -24,17 +24,16 @@ use Rattle.script_files.specs.declared.requests.Request.TheVariants.{Demo}
 use Rattle.script_files.specs.Scripts.{AreFitScripts, scripts_of}
 use Rattle.world_run.specs.Closed.{Closed}
 use Rattle.conformance.specs.sessions.Kept.{kept_of}
-use Rattle.conformance.specs.sessions.Ran.{SessionsRan}
+use Rattle.conformance.specs.sessions.Ran.{ClosesWorld, SessionsRan}
 use Rattle.vw_io.specs.Outputs.{Named}
 use Rattle.world_run.specs.declared.runs.ScriptsRun.{ScriptsRun}
 use Rattle.script_files.specs.declared.tallies.Tally.{Tally}
 use Rattle.script_files.specs.declared.refusals.OutputRefused.{OutputRefused}
 use Rattle.script_files.specs.declared.scripts.Read.{Read}
 use Rattle.script_files.specs.Requests.{RunOutputs, texts_written}
-use Rattle.script_files.specs.Reports.{BeginsFirst}
-use Rattle.script_files.specs.Demos.{demo_plan, demo_asked, LoadBegan, LoadSessionsBegan}
+use Rattle.script_files.specs.Demos.{demo_plan, demo_asked, LoadBegan}
 use Rattle.script_files.specs.Outcomes.{Outcome}
-use Rattle.script_files.specs.Stages.{IsLoadRead, given_of, ClosesRun, WroteRun, BeginsClosed, StopsRun}
+use Rattle.script_files.specs.Stages.{IsLoadRead, given_of, WroteRun, BeginsRun, StopsRun}
 use Rattle.script_files.proofs.Ending.{given_same, is_coloured, is_run, ends_world, texts_same, begins_same}
 
 -- 256 is one power of two alone
@@ -127,25 +126,26 @@ module _ (n : ℕ) (r : Read) (run : ScriptsRun) (old new : ShelfState) (counted
   load_models : run.run.models ≡ load_model n ∷ []
   load_models = models_are ∙ read.models
 
-  module _ (closed : Closed) (closes : ClosesRun run.run closed) where
+  module _ (log : Log)
+      (closes : ClosesWorld run.run.tint run.run.plan run.run.models run.run.sessions log) where
     run_of_load : AllRan demo_plan (load_model n ∷ []) r.scripts.items run.transcripts.items
-        closed.history
+        log
     run_of_load =
         is_run demo_asked
         (load_model n ∷ []) r.scripts.items run ran_load plan_is tint_is load_models kept
-        fits_load closed closes
+        fits_load log closes
 
     -- each region's count is what its own script makes
-    own : length closed.history.records ≡ 800
+    own : length log.records ≡ 800
         → region_counts run.transcripts.items ≡ own_counts n
     own all =
         let lines : r.scripts.items ≡ load_lines n =
         ok_lines r.scripts.items (load_lines n) _ _ read.read (load_is_read n) refl in
-        let agrees : Agrees demo_plan (load_model n ∷ []) closed.history (load_lines n)
+        let agrees : Agrees demo_plan (load_model n ∷ []) log (load_lines n)
         run.transcripts.items =
-        subst (λ (ls : List (List ScriptLine)). Agrees demo_plan (load_model n ∷ []) closed.history
+        subst (λ (ls : List (List ScriptLine)). Agrees demo_plan (load_model n ∷ []) log
         ls run.transcripts.items) lines run_of_load.agrees in
-        counted demo_plan n closed.history run.transcripts.items agrees all
+        counted demo_plan n log run.transcripts.items agrees all
 
   pub demo_written : (tally : Tally) (closed : Closed) (counts : List ℕ)
       → counts ≡ region_counts run.transcripts.items
@@ -163,46 +163,33 @@ module _ (n : ℕ) (r : Read) (run : ScriptsRun) (old new : ShelfState) (counted
             transcripts = run.transcripts.items;
             lines = r.scripts.items;
             read = read.read;
-            run = run_of_load closed w.closes;
+            run = run_of_load closed.history w.closes.closes;
             ends = ends_world demo_asked (load_model n ∷ []) r.scripts.items run ran_load plan_is
                 tint_is load_models kept fits_load closed w.closes;
             number = refl;
             records = w.tallied.records;
             counts = are;
-            regions = λ all. are ∙ own closed w.closes all;
+            regions = λ all. are ∙ own closed.history w.closes.closes all;
             are = texts_same demo_asked (load_model n ∷ []) r.scripts.items run ran_load plan_is
-                tint_is load_models kept fits_load closed w.closes [];
+                tint_is load_models kept fits_load closed.history w.closes.closes [];
           };
         };
         whole = w.whole;
         no_fault = w.calm;
       }
 
-  demo_begun : (outputs : List Named)
-      → BeginsFirst demo_asked (given_of run) outputs ⊎ BeginsClosed demo_asked run outputs
-      → LoadSessionsBegan n outputs ⊎ LoadBegan n outputs
-  demo_begun outputs (inl b) = inl (record {
+  demo_begun : (outputs : List Named) → BeginsRun demo_asked run outputs → LoadBegan n outputs
+  demo_begun outputs b = record {
+    log = b.log;
     transcripts = run.transcripts.items;
     lines = r.scripts.items;
     read = read.read;
-    sessions = run.run.sessions;
-    ran = ran_load;
-    begins = subst (λ (g : RunOutputs). BeginsFirst demo_asked g outputs)
-        (given_same demo_asked
-        (load_model n ∷ []) r.scripts.items run ran_load plan_is tint_is load_models
-        kept fits_load) b;
-  })
-  demo_begun outputs (inr b) = inr (record {
-    log = b.closed.history;
-    transcripts = run.transcripts.items;
-    lines = r.scripts.items;
-    read = read.read;
-    run = run_of_load b.closed b.closes;
+    run = run_of_load b.log b.closes;
     coloured = is_coloured demo_asked (load_model n ∷ []) r.scripts.items run ran_load plan_is
-        tint_is load_models kept fits_load b.closed b.closes;
+        tint_is load_models kept fits_load b.log b.closes;
     begins = begins_same demo_asked (load_model n ∷ []) r.scripts.items run ran_load plan_is
-        tint_is load_models kept fits_load b.closed b.closes outputs b.begins;
-  })
+        tint_is load_models kept fits_load b.log b.closes outputs b.begins;
+  }
 
   pub demo_stopped : (refused : OutputRefused) → StopsRun demo_asked run refused old new
       → Outcome (Err (Output refused)) (Demo n) old new

@@ -65,7 +65,7 @@ LacksHistory file journal line = LacksLine file journal line ⊎ HasIllegal file
 pub record FillsReplay (file journal : List ℕ) (full : Full) : Type 0 where
   pub legal : GivesLegal file journal
   pub fills : MayFillAlong (replay_plan legal.given.log.side) legal.given.models
-      legal.given.log.records full
+      legal.given.log.marks legal.given.log.records full
 
 -- want of memory says nothing
 abbrev pub RefusesDagging : List ℕ → List ℕ → TextRefused → Type 0

@@ -6,8 +6,6 @@ use Rattle.node_words.specs.Plans.{Layout, usual_buckets}
 use Rattle.transcript.specs.declared.answers.LineAnswer.{LineAnswer}
 use Rattle.script.specs.declared.commands.ScriptLine.{ScriptLine}
 use Rattle.conformance.specs.Runs.{AllRan}
-use Rattle.conformance.specs.sessions.Ran.{SessionsRan}
-use Rattle.conformance.specs.sessions.Seen.{SessionSeen}
 use Rattle.world_run.specs.Closed.{Closed}
 use Rattle.world_run.specs.Ends.{IsEndOf}
 use Rattle.gen_load.specs.Loads.{load_model, load_scripts}
@@ -15,8 +13,8 @@ use Rattle.text_laws.specs.regions.LastCounts.{region_counts}
 use Rattle.text_laws.specs.regions.Statements.{own_counts}
 use Rattle.script_files.specs.declared.tallies.LoadTally.{LoadTally}
 use Rattle.script_files.specs.Orders.{Asked}
-use Rattle.script_files.specs.Requests.{given_seen, given_by, texts_written}
-use Rattle.script_files.specs.Reports.{BeginsFirst, BeginsTexts}
+use Rattle.script_files.specs.Requests.{given_by, texts_written}
+use Rattle.script_files.specs.Reports.{BeginsTexts}
 use Rattle.script_files.specs.Scripts.{scripts_of}
 
 -- the usual plan of side 256
@@ -53,7 +51,8 @@ pub record LoadRan (n : ℕ) (told : LoadTally) (closed : Closed) (outputs : Lis
     pub are : outputs ≡ texts_written demo_asked
         (given_by false (load_model n ∷ []) lines log transcripts) log []
 
--- the same as far as these first outputs, of which a later one may not have been made
+-- the same as far as these first outputs, of which a later one may not have been made, with the
+-- world closed or not
 pub record LoadBegan (n : ℕ) (outputs : List Named) : Type 0 where
   pub log : Log
   pub transcripts : List (List LineAnswer)
@@ -63,13 +62,3 @@ pub record LoadBegan (n : ℕ) (outputs : List Named) : Type 0 where
   pub coloured : log.coloured ≡ false
   pub begins : BeginsTexts demo_asked (given_by false (load_model n ∷ []) lines log transcripts) log
       outputs
-
--- the world wasn't closed yet: these are first ones of the sessions' transcripts
-pub record LoadSessionsBegan (n : ℕ) (outputs : List Named) : Type 0 where
-  pub transcripts : List (List LineAnswer)
-  pub lines : List (List ScriptLine)
-  pub read : scripts_of false 8 (load_model n ∷ []) (load_scripts n) ≡ Ok lines
-  pub sessions : List SessionSeen
-  pub ran : SessionsRan false demo_plan (load_model n ∷ []) 0 lines transcripts sessions
-  pub begins : BeginsFirst demo_asked
-      (given_seen false (load_model n ∷ []) lines transcripts sessions) outputs

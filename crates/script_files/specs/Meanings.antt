@@ -1,6 +1,6 @@
 -- What the texts of the inputs mean to each command: what its line tells and its outputs, or what
 -- is refused.
-use Rattle.std.specs.Prelude.{◌≡◌, ◌⊎◌, ℕ, ◌∷◌, [], false, List, length, IsTrue, Option, Some, None, Ok, Err, ⊤}
+use Rattle.std.specs.Prelude.{◌≡◌, ℕ, ◌∷◌, [], false, List, length, IsTrue, Option, Some, None, Ok, Err, ⊤}
 use Rattle.vw_io.specs.Outputs.{Named}
 use Rattle.vw_io.specs.Names.{collide}
 use Rattle.vox_chunk.specs.declared.faults.VoxFault.{VoxFault}
@@ -11,8 +11,6 @@ use Rattle.transcript.specs.declared.answers.LineAnswer.{LineAnswer}
 use Rattle.script.specs.declared.commands.ScriptLine.{ScriptLine}
 use Rattle.script.specs.Fitting.{IsOfText}
 use Rattle.conformance.specs.Runs.{AllRanKeeping}
-use Rattle.conformance.specs.sessions.Ran.{SessionsRanKeeping}
-use Rattle.conformance.specs.sessions.Seen.{SessionSeen}
 use Rattle.world_run.specs.Closed.{Closed}
 use Rattle.world_run.specs.Ends.{IsEndOf}
 use Rattle.report.specs.Numbers.{IsTotal}
@@ -28,10 +26,10 @@ use Rattle.script_files.specs.declared.refusals.TranscriptLine.{TranscriptLine}
 use Rattle.script_files.specs.Dags.{DagWritten, FillsReplay, LacksHistory, journal_in}
 use Rattle.script_files.specs.Orders.{Asked, AuditAsked}
 use Rattle.script_files.specs.Audits.{AuditTexts, audit_texts, Audited, LacksJournal, LacksScript, LacksTranscript, FillsAudit}
-use Rattle.script_files.specs.Requests.{inputs_of, output_names, given_seen, given_by, texts_written}
-use Rattle.script_files.specs.Reports.{ReportIs, BeginsFirst, BeginsTexts}
+use Rattle.script_files.specs.Requests.{inputs_of, output_names, given_by, texts_written}
+use Rattle.script_files.specs.Reports.{ReportIs, BeginsTexts}
 use Rattle.script_files.specs.Scripts.{lines_asked}
-use Rattle.script_files.specs.Demos.{LoadRan, LoadBegan, LoadSessionsBegan}
+use Rattle.script_files.specs.Demos.{LoadRan, LoadBegan}
 use Rattle.node_words.specs.declared.shares.Full.{Full}
 use Rattle.script_files.specs.Floods.{RegionFlooded, RegionBegun, LacksPlace, FillsStore}
 use Rattle.vox_scene.specs.declared.faults.SceneFault.{SceneFault}
@@ -99,7 +97,8 @@ pub record ScriptsRan (asked : Asked) (texts : List (List ℕ)) (tally : Tally) 
   pub are : outputs ≡ texts_written asked
       (given_by asked.tint accepted.models accepted.lines log transcripts) log report
 
--- the same as far as these first outputs, of which a later one may not have been made
+-- the same as far as these first outputs, of which a later one may not have been made, with the
+-- world closed or not
 pub record ScriptsBegan (asked : Asked) (texts : List (List ℕ)) (outputs : List Named) : Type 0
   where
     pub log : Log
@@ -107,21 +106,6 @@ pub record ScriptsBegan (asked : Asked) (texts : List (List ℕ)) (outputs : Lis
     pub accepted : IsAccepted asked texts log transcripts
     pub begins : BeginsTexts asked
         (given_by asked.tint accepted.models accepted.lines log transcripts) log outputs
-
--- the world wasn't closed yet: each session ran its script, and these are first ones of their
--- transcripts and saved files
-pub record SessionsBegan (asked : Asked) (texts : List (List ℕ)) (outputs : List Named) : Type 0
-  where
-    pub models : List Content
-    pub gives : ReadsModels (file_in texts) (Ok models)
-    pub lines : List (List ScriptLine)
-    pub read : lines_asked asked models (scripts_in texts) ≡ Ok lines
-    pub apart : AreApart asked lines
-    pub transcripts : List (List LineAnswer)
-    pub sessions : List SessionSeen
-    pub ran : SessionsRanKeeping asked.keep asked.tint asked.plan models 0 lines transcripts
-        sessions
-    pub begins : BeginsFirst asked (given_seen asked.tint models lines transcripts sessions) outputs
 
 -- what a command gives where nothing is refused, and the closed world where it ran scripts
 abbrev pub GivesOutputs : Request → List (List ℕ) → Done → Option Closed → List Named → Type 0
@@ -144,9 +128,8 @@ GivesOutputs _ texts _ _ outputs = ⊥
 -- the first outputs of a command; `count`, `look` and `audit` have none
 abbrev pub BeginsOutputs : Request → List (List ℕ) → List Named → Type 0
 BeginsOutputs (Count file) texts outputs = ⊥
-BeginsOutputs (Run asked) texts outputs =
-    SessionsBegan asked texts outputs ⊎ ScriptsBegan asked texts outputs
-BeginsOutputs (Demo n) texts outputs = LoadSessionsBegan n outputs ⊎ LoadBegan n outputs
+BeginsOutputs (Run asked) texts outputs = ScriptsBegan asked texts outputs
+BeginsOutputs (Demo n) texts outputs = LoadBegan n outputs
 BeginsOutputs (Flood asked) texts outputs = RegionBegun asked (file_in texts) outputs
 BeginsOutputs (Scene asked) texts outputs = SceneBegun asked (file_in texts) outputs
 BeginsOutputs (Dag asked) texts outputs =

@@ -5,20 +5,15 @@ use Rattle.vox_read.specs.Contents.{Content}
 use Rattle.history_model.specs.Logs.{Log}
 use Rattle.report.specs.Reports.{IsReport}
 use Rattle.script_files.specs.Orders.{Asked}
-use Rattle.script_files.specs.Requests.{RunOutputs, written_first, texts_written}
+use Rattle.script_files.specs.Requests.{RunOutputs, texts_written}
 
 -- the report of a history, where one is wanted
 abbrev pub ReportIs : Option (List ℕ) → List Content → Log → List ℕ → Type 0
 ReportIs None models log text = ⊤
 ReportIs (Some name) models log text = IsReport models log text
 
--- these are first outputs of a run whose world isn't closed: of the transcripts and saved files
-pub record BeginsFirst (asked : Asked) (given : RunOutputs) (outputs : List Named) : Type 0 where
-  pub rest : List Named
-  pub parts : outputs ++ rest ≡ written_first asked given
-
--- these are first outputs of a run whose world was closed with this history. The report is the last
--- one, and is the history's where it is among them
+-- these are first outputs of a run whose sessions had this history. The report is the last one, and
+-- is the history's where it is among them
 pub record BeginsTexts (asked : Asked) (given : RunOutputs) (log : Log) (outputs : List Named)
     : Type 0 where
   pub report : List ℕ

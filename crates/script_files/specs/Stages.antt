@@ -11,6 +11,7 @@ use Rattle.script.specs.Scripts.{commands_of}
 use Rattle.gen_load.specs.Loads.{load_model, load_scripts}
 use Rattle.conformance.specs.sessions.Ran.{ClosesWorld}
 use Rattle.world_run.specs.Closed.{Closed}
+use Rattle.world_run.specs.Closes.{HadHistory}
 use Rattle.world_run.specs.Ends.{IsEndOf}
 use Rattle.world_run.specs.Open.{RunState}
 use Rattle.report.specs.Numbers.{AreNumbers}
@@ -25,7 +26,7 @@ use Rattle.script_files.specs.declared.refusals.OutputRefused.{OutputRefused}
 use Rattle.script_files.specs.declared.scripts.Read.{Read}
 use Rattle.script_files.specs.Meanings.{file_in, scripts_in, AreApart, TalliesRun}
 use Rattle.script_files.specs.Refusals.{output_name}
-use Rattle.script_files.specs.Reports.{ReportIs, BeginsFirst, BeginsTexts}
+use Rattle.script_files.specs.Reports.{ReportIs, BeginsTexts}
 use Rattle.world_run.specs.Open.{file_of_save}
 use Rattle.script_files.specs.Requests.{RunOutputs, written_last, texts_written}
 
@@ -131,8 +132,9 @@ abbrev pub WritesClosed : Asked → RunState → Result RunWritten OutputRefused
 WritesClosed asked r (Ok w) old new = WroteHistory asked r w.tally w.ended old new
 WritesClosed asked r (Err refused) old new = StopsClosed asked r refused old new
 
--- or it wasn't closed, and nothing was written
-pub record StopsOpen (refused : OutputRefused) (old new : ShelfState) : Type 0 where
+-- or it wasn't closed, its sessions had one history, and nothing was written
+pub record StopsOpen (r : RunState) (refused : OutputRefused) (old new : ShelfState) : Type 0 where
+  pub had : HadHistory r.tint r.plan r.models r.sessions
   pub stops : StopsWith refused.why (output_name refused.name) [] old.files new.files old.faults
       new.faults
 
@@ -140,7 +142,7 @@ abbrev pub WritesHistory : Asked → RunState → Result RunWritten OutputRefuse
     → ShelfState → Type 0
 WritesHistory asked r (Ok w) old new = WroteHistory asked r w.tally w.ended old new
 WritesHistory asked r (Err refused) old new =
-    StopsOpen refused old new ⊎ StopsClosed asked r refused old new
+    StopsOpen r refused old new ⊎ StopsClosed asked r refused old new
 
 -- all outputs of a run were written, and this was told
 pub record WroteRun (asked : Asked) (r : ScriptsRun) (tally : Tally) (closed : Closed)
@@ -153,17 +155,17 @@ pub record WroteRun (asked : Asked) (r : ScriptsRun) (tally : Tally) (closed : C
       new.files
   pub calm : new.faults ≡ old.faults
 
--- the world was closed, and these are first outputs
-pub record BeginsClosed (asked : Asked) (r : ScriptsRun) (outputs : List Named) : Type 0 where
-  pub closed : Closed
-  pub closes : ClosesRun r.run closed
-  pub begins : BeginsTexts asked (given_of r) closed.history outputs
+-- its sessions had one history, and these are first outputs
+pub record BeginsRun (asked : Asked) (r : ScriptsRun) (outputs : List Named) : Type 0 where
+  pub log : Log
+  pub closes : ClosesWorld r.run.tint r.run.plan r.run.models r.run.sessions log
+  pub begins : BeginsTexts asked (given_of r) log outputs
 
 -- some first ones were written
 pub record StopsRun (asked : Asked) (r : ScriptsRun) (refused : OutputRefused)
     (old new : ShelfState) : Type 0 where
   pub outputs : List Named
-  pub begins : BeginsFirst asked (given_of r) outputs ⊎ BeginsClosed asked r outputs
+  pub begins : BeginsRun asked r outputs
   pub stops : StopsWith refused.why (output_name refused.name) outputs old.files new.files
       old.faults new.faults
 

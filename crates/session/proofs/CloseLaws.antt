@@ -160,19 +160,23 @@ ends_as coloured t closed ends =
 
 -- ---- the world
 
+-- the history of a closed table is legal
+pub legal_left : (w : TableSeen) (closed : Closed) → EndsTable w closed
+    → IsLegal (2 ^ w.plan.side) w.models closed.history
+legal_left w closed ends =
+    subst (λ (log : Log). IsLegal (2 ^ w.plan.side) w.models log)
+    (sym ends.history) ends.sound.versions.legal
+
 module _ (tint : Bool) (w : TableSeen) (may : MayTint tint w.plan w.models)
-    (passes : List PassSeen) (closed : Closed) (rest : All (IsAtRest w) passes)
-    (ends : EndsTable w closed) (tells : TellsAll closed.history passes)
+    (passes : List PassSeen) (log : Log) (rest : All (IsAtRest w) passes)
+    (was_legal : IsLegal (2 ^ w.plan.side) w.models log) (tells : TellsAll log passes)
     (had : HadEnough w.plan passes) where
-  -- the history that the world leaves
+  -- the table's history as that of the world
   abbrev history : Log
-  history = (coloured_as tint closed).history
+  history = log_as tint log
 
   legal : IsLegal (2 ^ w.plan.side) w.models history
-  legal =
-      let e = ends_as tint w closed ends in
-      subst (λ (log : Log). IsLegal (2 ^ w.plan.side) w.models log)
-      (sym e.history) e.sound.versions.legal
+  legal = legal_as tint (2 ^ w.plan.side) w.models log was_legal
 
   goes_on_to : (k : ℕ) (d : PassSeen) → k < length passes
       → GoesOn (log_as tint (log_seen (get_or passes k d).view.log)) history
@@ -184,10 +188,10 @@ module _ (tint : Bool) (w : TableSeen) (may : MayTint tint w.plan w.models)
         coloured = refl;
         more = b.more;
         records = b.records;
-        marks = all_there (Contains closed.history.marks) s.view.log.seen.marks b.marks;
+        marks = all_there (Contains log.marks) s.view.log.seen.marks b.marks;
       }
 
-  was_found : (f : Found) → WasFound closed.history f → StillFound history f
+  was_found : (f : Found) → WasFound log f → StillFound history f
   was_found f was = record { there = was.at; still = was.held }
 
   found_of : (k : ℕ) (s : PassSeen) → slice_get passes k ≡ Some s
@@ -206,7 +210,7 @@ module _ (tint : Bool) (w : TableSeen) (may : MayTint tint w.plan w.models)
         (λ (s : PassSeen). session_seen s.view) passes found_of;
     records = record {
       weighs = λ f.
-          ap (sum_by f) (sym (numbered_same 1 closed.history.records)) ∙ sym (tells.records f)
+          ap (sum_by f) (sym (numbered_same 1 log.records)) ∙ sym (tells.records f)
           ∙ ap (sum_by f) (sym (records_same passes));
     };
     marks = record {

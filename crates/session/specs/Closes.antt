@@ -2,6 +2,10 @@
 use Rattle.std.specs.Prelude.{◌≡◌, ◌≢◌, Bool, List, length, map}
 use Rattle.node_table.specs.Seen.{PassSeen}
 use Rattle.node_table.specs.declared.closed.Closed.{Closed}
+use Rattle.vox_read.specs.Contents.{Content}
+use Rattle.history_model.specs.Logs.{Log}
+use Rattle.node_words.specs.Plans.{Layout}
+use Rattle.conformance.specs.sessions.Ran.{ClosesWorld}
 use Rattle.conformance.specs.sessions.Seen.{SessionSeen}
 use Rattle.session.specs.Seen.{WorldSeen, session_seen}
 use Rattle.session.specs.declared.closes.CloseRefused.{CloseRefused}
@@ -23,6 +27,12 @@ coloured_as coloured closed = record {
 -- what each session saw and did
 abbrev pub sessions_seen : List PassSeen → List SessionSeen
 sessions_seen sessions = map (λ s. session_seen s.view) sessions
+
+-- these sessions had one history, with which their world could be closed
+pub record HadHistory (tint : Bool) (p : Layout) (models : List Content)
+    (sessions : List SessionSeen) : Type 0 where
+  pub log : Log
+  pub closes : ClosesWorld tint p models sessions log
 
 -- its sessions are not as many as were made, or they are, and there was no memory. The world and
 -- all sessions come back as they were

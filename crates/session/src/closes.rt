@@ -2,7 +2,7 @@
 ghost use Rattle.std.specs.Prelude.{◌≡◌, [], All, IfErr, IfOk, vec_len};
 ghost use Rattle.node_table.specs.Closing.{EndsTable};
 ghost use Rattle.conformance.specs.sessions.Ran.{ClosesWorld};
-ghost use Rattle.session.specs.Closes.{RefusesWorld, sessions_seen};
+ghost use Rattle.session.specs.Closes.{HadHistory, RefusesWorld, sessions_seen};
 ghost use Rattle.session.specs.Resting.{IsAtRest};
 
 use crate::ended::Ended;
@@ -74,5 +74,23 @@ impl<'m> World<'m> {
                 sessions: passes,
             }),
         }
+    }
+    /// Gives up the world with all its sessions, which had one history of them all. It takes no
+    /// memory.
+    pub fn give_up(self, sessions: Vec<Session>)
+        requires rest { All (IsAtRest self.table) sessions.items }
+        requires spare { All (λ s. s.view.held ≡ []) sessions.items }
+        requires made { vec_len sessions ≡ self.table.made }
+        ensures { HadHistory self.entry.tint self.entry.table.plan self.entry.table.models
+            (sessions_seen sessions.items) }
+    {
+        let World {
+            table,
+            drawn: _,
+            models: _,
+            tint: _,
+            keep: _,
+        } = self;
+        table.give_up(sessions);
     }
 }

@@ -5,7 +5,9 @@ use Rattle.std.proofs.lemmas.List.Elements.{All-nil, All-cons, All-head, All-wea
 use Rattle.vox_read.specs.Contents.{Content}
 use Rattle.history_model.specs.declared.acts.Act.{Act}
 use Rattle.history_model.specs.declared.histories.Record.{Record}
+use Rattle.history_model.specs.LegalLaws.{edit_follows}
 use Rattle.history_model.specs.Logs.{Log}
+use Rattle.history_model.specs.Positions.{position_after}
 use Rattle.history_model.specs.Worlds.{is_edit}
 use Rattle.node_words.specs.shapes.Shape.{Shape}
 use Rattle.node_words.specs.declared.shares.Full.{Full}
@@ -21,7 +23,8 @@ use Rattle.conformance.proofs.OfScripts.Refusals.{made_in_stays, wanted_stays}
 use Rattle.store_run.specs.declared.stored_versions.Versions.{Versions}
 use Rattle.store_run.specs.Kept.{plan_of, log_of, noted_of, AreStoredVersions}
 use Rattle.store_run.specs.Steps.{MeetsBucket}
-use Rattle.store_run.specs.Replaying.{ReplayState, replay_state, spans_from, MayFillReplay, MakesOnlyParts, TakesEdit, TakesWay, FillsBucket}
+use Rattle.store_run.specs.Replaying.{ReplayState, replay_state, spans_from, MayFillReplay, MakesOnlyParts, TakesEdit, TakesWay, FillsBucket, RefusesRecord}
+use Rattle.store_run.specs.declared.replaying.ReplayRefused.TheVariants as refusals
 use Rattle.store_run.proofs.Targets.{grew_wanted}
 
 -- a record on the version before it, which has this number
@@ -176,13 +179,15 @@ way_parts s u w r is only takes =
 pub edit_fills : (s : ReplayState) (u w : Versions) (r : Record) (full : Full) → replay_state u ≡ s
     → AreStoredVersions u
     → is_edit r.act ≡ true → MakesOnlyParts s
-    → FillsBucket u r.act full w → MayFillReplay s.plan s.models (s.records ++ r ∷ []) full
+    → FillsBucket u r.act full w → RefusesRecord s r (refusals.Full full)
 edit_fills s u w r full is are edit only fills =
     let here : MakesOnlyParts (replay_state u) =
-    subst (λ (t : ReplayState). MakesOnlyParts t) (sym is) only in
-    subst (λ (t : ReplayState). MayFillReplay t.plan t.models (t.records ++ r ∷ []) full) is
-    (may_fill (plan_of u) u.models.models u.records.items r u.store.told.made w.store.told.made full
-    (grew_wanted u r.act are edit u.store.told.made w.store.told.made fills.made) here.parts fills.enough)
+    subst (λ (t : ReplayState). MakesOnlyParts t) (sym is) only in (
+      edit_follows [] (length s.records + 1) r.act (position_after s.records) edit,
+      subst (λ (t : ReplayState). MayFillReplay t.plan t.models (t.records ++ r ∷ []) full) is
+          (may_fill (plan_of u) u.models.models u.records.items r u.store.told.made w.store.told.made full
+          (grew_wanted u r.act are edit u.store.told.made w.store.told.made fills.made) here.parts fills.enough),
+    )
 
 -- ---- the state of versions that only got room
 

@@ -1,10 +1,11 @@
 -- A history that is replayed record by record over a store, and of which no version is forgotten.
-use Rattle.std.specs.Prelude.{◌≡◌, ℕ, ◌+◌, Bool, true, false, List, [], ◌∷◌, ◌++◌, length, replicate, Result, Ok, Err, All, ⊤}
+use Rattle.std.specs.Prelude.{◌≡◌, ℕ, ◌+◌, ◌^◌, ◌≤◌, Bool, true, false, List, [], ◌∷◌, ◌++◌, length, replicate, Result, Ok, Err, All, ⊤}
 use Rattle.vox_read.specs.Contents.{Content}
 use Rattle.history_model.specs.declared.acts.Act.{Act}
+use Rattle.history_model.specs.declared.histories.Mark.{Mark}
 use Rattle.history_model.specs.declared.histories.Record.{Record}
-use Rattle.history_model.specs.Logs.{MayFollow}
-use Rattle.history_model.specs.Positions.{position_after}
+use Rattle.history_model.specs.Logs.{FitsWorld, MayFollow, MayFollowFrom}
+use Rattle.history_model.specs.Positions.{beginning, position_after}
 use Rattle.node_words.specs.declared.shares.Full.{Full}
 use Rattle.node_words.specs.Enough.{HasEnough}
 use Rattle.node_words.specs.Gathering.{Grew}
@@ -52,13 +53,21 @@ abbrev pub MayFillReplay : Layout → List Content → List Record → Full → 
 MayFillReplay p models records full =
     IsPossible p models records (spans_from 0 records) full.level full.bucket p.cap
 
--- so do the records up to one of them: what a replay that ends at a full bucket says of all that
--- it was to replay
-pub record MayFillAlong (p : Layout) (models : List Content) (records : List Record)
-    (full : Full) : Type 0 where
+-- the rules of a legal history that its records keep, with these marks
+pub record AreLegalRecords (side : ℕ) (models : List Content) (marks : List Mark)
+    (records : List Record) : Type 0 where
+  pub few : length records ≤ 65535
+  pub fit : All (λ r. FitsWorld side models r.act) records
+  pub follow : MayFollowFrom marks 1 beginning records
+
+-- so do the records up to one of them, which keep those rules: what a replay with these marks that
+-- ends at a full bucket says of all that it was to replay
+pub record MayFillAlong (p : Layout) (models : List Content) (marks : List Mark)
+    (records : List Record) (full : Full) : Type 0 where
   pub first : List Record
   pub rest : List Record
   pub begins : records ≡ first ++ rest
+  pub legal : AreLegalRecords (2 ^ p.side) models marks first
   pub fills : MayFillReplay p models first full
 
 -- the plan of a store over which a whole history is replayed, in worlds of side 2 ^ side
@@ -105,8 +114,9 @@ Replays old r (Ok true) new = CanFollow old r × (new ≡ old ++ r ∷ [])
 Replays old r (Ok false) new = (CanFollow old r → ⊥) × (new ≡ old)
 Replays old r (Err refused) new = new ≡ old
 
--- what a refusal says: want of memory says nothing
+-- what a refusal says: a bucket is full for a record that can follow, and want of memory says
+-- nothing
 abbrev pub RefusesRecord : ReplayState → Record → ReplayRefused → Type 0
 RefusesRecord s r (refusals.Full full) =
-    MayFillReplay s.plan s.models (s.records ++ r ∷ []) full
+    CanFollow s.records r × MayFillReplay s.plan s.models (s.records ++ r ∷ []) full
 RefusesRecord s r refusals.Memory = ⊤

@@ -20,7 +20,7 @@ use Rattle.script.specs.declared.commands.SaveName.{SaveName}
 use Rattle.script.specs.Commands.{name_bytes}
 use Rattle.script_files.specs.Kept.{KeptSave}
 use Rattle.script_files.specs.Refusals.{output_name, HasOutputName}
-use Rattle.script_files.specs.Reports.{BeginsFirst, BeginsTexts}
+use Rattle.script_files.specs.Reports.{BeginsTexts}
 use Rattle.script_files.specs.Requests.{RunOutputs, transcript_name, named_texts, wanted_output, saved_output, written_first, written_last, texts_written}
 use Rattle.script_files.specs.Demos.{demo_asked}
 use Rattle.script_files.specs.Meanings.{BeginsOutputs}
@@ -114,13 +114,6 @@ began_fits asked given log outputs first others output room fit begins parts =
     among_fits (texts_written asked given log begins.report) outputs begins.rest first others output
     room (outputs_fit asked given log begins.report room fit) begins.parts parts
 
-first_began_fits : (asked : Asked) (given : RunOutputs) (outputs first others : List Named)
-    (output : Named) (room : ℕ) → NamesFit asked room → BeginsFirst asked given outputs
-    → outputs ≡ first ++ output ∷ others → FitsRoom room output.name
-first_began_fits asked given outputs first others output room fit begins parts =
-    among_fits (written_first asked given) outputs begins.rest first others output room
-    (first_fit asked given room fit) begins.parts parts
-
 -- `count` writes nothing
 count_write : (why : WriteRefused) (name : List ℕ) (file : List ℕ) (old new : ShelfState)
     → BreaksOff why name (Count file) old new → ⊥
@@ -129,9 +122,7 @@ count_write why name file old new breaks = breaks.begins.begins
 run_output : (asked : Asked) (texts : List (List ℕ)) (outputs first others : List Named)
     (output : Named) (room : ℕ) → BeginsOutputs (Run asked) texts outputs → NamesFit asked room
     → outputs ≡ first ++ output ∷ others → FitsRoom room output.name
-run_output asked texts outputs first others output room (inl b) fit parts =
-    first_began_fits asked _ outputs first others output room fit b.begins parts
-run_output asked texts outputs first others output room (inr b) fit parts =
+run_output asked texts outputs first others output room b fit parts =
     began_fits asked _ _ outputs first others output room fit b.begins parts
 
 run_write : (why : WriteRefused) (name : List ℕ) (asked : Asked) (old new : ShelfState) (room : ℕ)
@@ -148,9 +139,7 @@ run_write writes.Memory name asked old new room breaks fit = tt
 demo_output : (n : ℕ) (texts : List (List ℕ)) (outputs first others : List Named)
     (output : Named) (room : ℕ) → BeginsOutputs (Demo n) texts outputs → NamesFit demo_asked room
     → outputs ≡ first ++ output ∷ others → FitsRoom room output.name
-demo_output n texts outputs first others output room (inl b) fit parts =
-    first_began_fits demo_asked _ outputs first others output room fit b.begins parts
-demo_output n texts outputs first others output room (inr b) fit parts =
+demo_output n texts outputs first others output room b fit parts =
     began_fits demo_asked _ _ outputs first others output room fit b.begins parts
 
 demo_write : (why : WriteRefused) (name : List ℕ) (n : ℕ) (old new : ShelfState) (room : ℕ)

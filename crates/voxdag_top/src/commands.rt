@@ -124,18 +124,18 @@ pub fn voxdag<S: Shelf, O: Sink, R: Threads + Wait + Sync>(
         → JudgesWords (request_of (texts words.now)) files v
         → MayCome (request_of (texts words.now)) v (status_for v) result }
 {
-    voxdag_gated(rt, &NoGate, alloc, words, shelf, out).status
+    voxdag_gated(rt, alloc, words, shelf, out, &NoGate).status
 }
 
 /// The same, and what the closed world left: where scripts ran and the status is 0. The sessions of
 /// the scripts pass the gate.
 pub fn voxdag_gated<S: Shelf, O: Sink, R: Threads + Wait + Sync, G: Gate + Sync>(
     rt: &R,
-    gate: &G,
     alloc: Global,
     words: &[String],
     shelf: &mut S,
     out: &mut O,
+    gate: &G,
 ) -> Gated
     ensures known { IsTrue (is_status result.status) }
 

@@ -1,8 +1,9 @@
 -- What a closed world tells, by version and by level.
-use Rattle.std.proofs.Common.{◌≡◌, ℕ, ◌+◌, ◌-◌, ◌≤◌, ◌^◌, Option, List, [], ◌∷◌, ◌++◌, take, refl, sym, ◌∙◌, ap, subst, arith, append_assoc}
-use Rattle.std.specs.Prelude.{All, Bool, Result, Ok, Err, IfOk}
+use Rattle.std.proofs.Common.{◌≡◌, ℕ, ◌+◌, ◌-◌, ◌<◌, ◌≤◌, ◌^◌, Option, List, [], ◌∷◌, ◌++◌, take, refl, sym, ◌∙◌, ap, subst, arith, append_assoc}
+use Rattle.std.specs.Prelude.{All, Bool, Result, Ok, Err, IfErr, IfOk}
 use Rattle.std.proofs.lemmas.List.{map_push}
 use Rattle.std.proofs.lemmas.List.Elements.{All-head}
+use Rattle.vox_read.specs.Contents.{Content}
 use Rattle.history_model.specs.Logs.{Log, IsLegal}
 use Rattle.node_words.specs.declared.shapes.names.Name.{Name}
 use Rattle.core_laws.specs.places.Spots.{levels}
@@ -13,8 +14,10 @@ use Rattle.report.specs.Roots.{RootsTellWorlds, listed_root}
 use Rattle.node_table.specs.Closing.{EndsTable}
 use Rattle.node_table.specs.Seen.{TableSeen, PassSeen}
 use Rattle.node_table.specs.declared.closed.Closed.{Closed}
+use Rattle.node_words.specs.Plans.{Layout}
+use Rattle.conformance.specs.sessions.Ran.{ClosesWorld}
 use Rattle.conformance.specs.sessions.Seen.{SessionSeen}
-use Rattle.session.specs.Closes.{sessions_seen}
+use Rattle.session.specs.Closes.{HadHistory, sessions_seen}
 use Rattle.session.specs.Seen.{session_seen}
 use Rattle.world_run.specs.declared.open_runs.SavedSession.{SavedSession}
 use Rattle.world_run.specs.Open.{saved_seen}
@@ -56,7 +59,15 @@ module _ (t : TableSeen) (closed : Closed) (low : 2 ≤ t.plan.side) (high : t.p
     coloured = coloured;
     numbers = numbers_are (take (top closed.history.side + 1) closed.live)
         (top closed.history.side) (ap (λ (s : ℕ). s - 2) side_is) refl;
+    as_many = ends.live.as_many;
+    above = λ level over. ends.live.above level (past level over);
   }
+    where
+      past : (level : ℕ) → top closed.history.side < level → levels t.plan ≤ level
+      past level over =
+          let over_is : t.plan.side - 2 < level =
+          subst (λ (s : ℕ). s - 2 < level) side_is over in
+          omega (arith, over_is, low)
 
 -- ---- sessions that are given up, or come to the end
 
@@ -78,6 +89,13 @@ seen_more spare more session all left saved whole pushed is same so_far =
 
 pub first_of : {X : Type 0} (P : X → Type 0) (x : X) (xs ys : List X) → ys ≡ x ∷ xs → All P ys → P x
 first_of {X} P x xs ys is all = All-head P x xs (subst (λ (zs : List X). All P zs) is all)
+
+-- a world that was closed, but of which there was no memory to tell, had that history
+pub ran_or_had : {E : Type 0} (p : Layout) (models : List Content) (tint : Bool) (sessions : List SessionSeen)
+    (log : Log) → ClosesWorld tint p models sessions log → (result : Result WorldRan E)
+    → IfErr result (λ _. HadHistory tint p models sessions)
+ran_or_had p models tint sessions log closes (Ok r) = tt
+ran_or_had p models tint sessions log closes (Err e) = record { log = log; closes = closes }
 
 -- ---- what a run tells whose world was closed
 

@@ -5,4 +5,5 @@ pub mod Starts
 pub mod Told
 pub use Rattle.node_table.specs.declared.closed.Closed
 pub use Rattle.session.specs.Roots
+pub use Rattle.session.specs.Closes
 pub use Rattle.session.specs.Reading

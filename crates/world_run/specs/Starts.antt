@@ -20,3 +20,5 @@ pub record StartsScripts (w : TableSeen) (scripts : List (List ScriptLine))
   pub no_transcript : s.outcomes.transcripts.items ≡ []
   pub sessions : length scripts ≤ vec_capacity s.outcomes.sessions
   pub transcripts : length scripts ≤ vec_capacity s.outcomes.transcripts
+  pub no_room : s.outcomes.room.items ≡ []
+  pub room : length scripts ≤ vec_capacity s.outcomes.room

@@ -1,10 +1,10 @@
 //! How a run ends: its world is closed, or given up.
-ghost use Rattle.std.specs.Prelude.{◌≡◌, ◌<◌, ◌≤◌, [], ℕ, All, IfOk, length, take, vec_capacity, vec_len};
+ghost use Rattle.std.specs.Prelude.{◌≡◌, ◌<◌, ◌≤◌, [], ℕ, All, IfErr, IfOk, length, take, vec_capacity, vec_len};
 ghost use Rattle.node_table.specs.LogTurns.{HasNoTurn};
 ghost use Rattle.report.specs.Numbers.{AreNumbers};
 ghost use Rattle.report.specs.Roots.{RootsTellWorlds, listed_root};
 ghost use Rattle.conformance.specs.sessions.Ran.{ClosesWorld};
-ghost use Rattle.session.specs.Closes.{sessions_seen};
+ghost use Rattle.session.specs.Closes.{HadHistory, sessions_seen};
 ghost use Rattle.session.specs.Resting.{IsAtRest};
 ghost use Rattle.session.specs.Seen.{session_seen};
 ghost use Rattle.world_run.specs.Ends.{IsEndOf};
@@ -35,9 +35,12 @@ pub(crate) fn close_over<R: Wait>(
     alloc: Global,
     world: World<'_>,
     sessions: Vec<SavedSession>,
+    room: Vec<Session>,
 ) -> Result<WorldRan, Memory>
     requires saved { All (IsSaved world.tint world.table) sessions.items }
     requires all { length sessions.items ≡ world.table.made }
+    requires none { room.items ≡ [] }
+    requires capacity { length sessions.items ≤ vec_capacity room }
     ensures closes { IfOk result (λ r. ClosesWorld world.entry.tint world.entry.table.plan
         world.entry.table.models (saved_seen sessions.items) r.ended.history) }
     ensures is_end { IfOk result
@@ -48,23 +51,16 @@ pub(crate) fn close_over<R: Wait>(
         (listed_root r.roots.items)) }
     ensures numbers { IfOk result
         (λ r. AreNumbers world.entry.table.models r.ended.history r.numbers.items) }
+    ensures refused { IfErr result (λ _. HadHistory world.entry.tint world.entry.table.plan
+        world.entry.table.models (saved_seen sessions.items)) }
 {
-    let Ok(room) = Vec::with_capacity(alloc, sessions.len()) else {
-        give_up_over(rt, &world, sessions);
-        return Err(Memory);
-    };
     let sessions = unpin_all(rt, &world, sessions, room);
     let levels = usize::from(world.plan().side().root_level()) + 1;
     match world.close(alloc, sessions) {
         Ok(ended) => told(alloc, ended, levels),
         Err(CloseRefused::Count { .. }) => unreachable!(),
-        Err(
-            CloseRefused::Memory {
-                world: _world,
-                sessions,
-            },
-        ) => {
-            end_all(sessions);
+        Err(CloseRefused::Memory { world, sessions }) => {
+            world.give_up(sessions);
             Err(Memory)
         }
     }
@@ -121,16 +117,22 @@ fn first_numbers(alloc: Global, live: &[u32; 11], levels: usize) -> Result<Vec<u
     Ok(numbers)
 }
 
-/// Gives back what is held for saves, and gives up the sessions of the world.
-pub(crate) fn give_up_over<R: Wait>(rt: &R, world: &World<'_>, sessions: Vec<SavedSession>)
-    requires saved { All (IsSaved world.now.tint world.now.table) sessions.items }
+/// Gives back what is held for saves, and gives up the world with its sessions.
+pub(crate) fn give_up_over<R: Wait>(
+    rt: &R,
+    world: World<'_>,
+    sessions: Vec<SavedSession>,
+    room: Vec<Session>,
+)
+    requires saved { All (IsSaved world.tint world.table) sessions.items }
+    requires all { length sessions.items ≡ world.table.made }
+    requires none { room.items ≡ [] }
+    requires capacity { length sessions.items ≤ vec_capacity room }
+    ensures { HadHistory world.entry.tint world.entry.table.plan world.entry.table.models
+        (saved_seen sessions.items) }
 {
-    let mut sessions = sessions.into_iter();
-    while let Some(saved) = sessions.next() {
-        let session = unpin_one(rt, world, saved);
-        session.end();
-    }
-    sessions.destroy_empty();
+    let sessions = unpin_all(rt, &world, sessions, room);
+    world.give_up(sessions);
 }
 
 /// Gives up sessions that hold nothing.

@@ -1,5 +1,5 @@
 //! A run whose sessions all ran their scripts.
-ghost use Rattle.std.specs.Prelude.{◌≡◌, ◌<◌, ◌≤◌, true, Some, All, IfOk, length};
+ghost use Rattle.std.specs.Prelude.{◌≡◌, ◌<◌, ◌≤◌, true, Some, All, IfErr, IfOk, length};
 ghost use Rattle.std.specs.List.{slice_get};
 ghost use Rattle.report.specs.Numbers.{AreNumbers};
 ghost use Rattle.report.specs.Roots.{RootsTellWorlds, listed_root};
@@ -7,6 +7,7 @@ ghost use Rattle.script.specs.Placing.{is_save_name};
 ghost use Rattle.conformance.specs.declared.saves.SavedBox.{SavedBox};
 ghost use Rattle.conformance.specs.sessions.Kept.{KeptSave, kept_at};
 ghost use Rattle.conformance.specs.sessions.Ran.{ClosesWorld};
+ghost use Rattle.session.specs.Closes.{HadHistory};
 ghost use Rattle.session.specs.Seen.{session_seen};
 ghost use Rattle.world_run.specs.Ends.{IsEndOf};
 ghost use Rattle.world_run.specs.Open.{HasSave, IsSaved, SavesAt, kept_in, file_of_save};
@@ -27,14 +28,16 @@ pub(crate) struct SavedSession {
 }
 
 /// A run whose sessions all ran their scripts, all sessions of its world. It holds what was saved,
-/// so that files can be made one at a time, and then its world is closed, or it is given up.
+/// so that files can be made one at a time, and then its world is closed, or it is given up, for
+/// which it has room.
 pub struct OpenRun<'m> {
     pub(crate) world: World<'m>,
     pub(crate) sessions: Vec<SavedSession>,
+    pub(crate) room: Vec<Session>,
 }
 
 impl<'m> Model for OpenRun<'m> {
-    ghost use Rattle.std.specs.Prelude.{◌≡◌, ◌≤◌, All, length};
+    ghost use Rattle.std.specs.Prelude.{◌≡◌, ◌≤◌, [], All, length, vec_capacity};
     ghost use Rattle.std.specs.Coded.{codes};
     ghost use Rattle.node_words.specs.shapes.ShapeCode.{coded_shape};
     ghost use Rattle.one_store.specs.notes.Told.{coded_wanted};
@@ -54,7 +57,9 @@ impl<'m> Model for OpenRun<'m> {
 
     ghost invariant = { λ r. All (IsSaved r.world.tint r.world.table) r.sessions.items
         × (length r.sessions.items ≡ r.world.table.made)
-        × (length r.sessions.items ≤ 64) };
+        × (length r.sessions.items ≤ 64)
+        × (r.room.items ≡ [])
+        × (length r.sessions.items ≤ vec_capacity r.room) };
 }
 
 // Which save of which session.
@@ -142,7 +147,11 @@ impl<'m> OpenRun<'m> {
         ensures same { self.new ≡ self.old }
     {
         let place = place_of(self.sessions.as_slice(), k);
-        let OpenRun { world, sessions } = self;
+        let OpenRun {
+            world,
+            sessions,
+            room: _,
+        } = self;
         file_in(alloc, world, &mut sessions[place.session], place.save)
     }
 
@@ -158,14 +167,28 @@ impl<'m> OpenRun<'m> {
             (listed_root r.roots.items)) }
         ensures numbers { IfOk result
             (λ r. AreNumbers self.entry.models r.ended.history r.numbers.items) }
+        ensures refused { IfErr result (λ _. HadHistory self.entry.tint self.entry.plan
+            self.entry.models self.entry.sessions) }
     {
-        let OpenRun { world, sessions } = self;
-        close_over(rt, alloc, world, sessions)
+        let OpenRun {
+            world,
+            sessions,
+            room,
+        } = self;
+        close_over(rt, alloc, world, sessions, room)
     }
 
-    /// Gives back what is held for saves, and gives up the sessions and their world.
-    pub fn give_up<R: Wait>(self, rt: &R) {
-        let OpenRun { world, sessions } = self;
-        give_up_over(rt, &world, sessions);
+    /// Gives back what is held for saves, and gives up the sessions and their world. They had one
+    /// history, which is not told. It takes no memory.
+    pub fn give_up<R: Wait>(self, rt: &R)
+        ensures { HadHistory self.entry.tint self.entry.plan self.entry.models
+            self.entry.sessions }
+    {
+        let OpenRun {
+            world,
+            sessions,
+            room,
+        } = self;
+        give_up_over(rt, world, sessions, room);
     }
 }

@@ -43,10 +43,11 @@ pub struct ScriptsRun<'m> {
     pub transcripts: Vec<Transcript>,
 }
 
-// What comes of the scripts, in their order.
+// What comes of the scripts, in their order, and room for the sessions when they are given up.
 struct Outcomes {
     sessions: Vec<SavedSession>,
     transcripts: Vec<Transcript>,
+    room: Vec<Session>,
 }
 
 // The sessions of a new world, and room for what comes of them.
@@ -89,19 +90,14 @@ pub fn run_scripts<'m, R: Threads + Wait + Sync, G: Gate + Sync>(
     if scripts.is_empty() {
         return Err(Memory);
     }
-    let transcripts = Vec::with_capacity(alloc, scripts.len())?;
     let rooms = rooms_of(alloc, scripts)?;
-    let Ok(sessions) = Vec::with_capacity(alloc, scripts.len()) else {
+    let Ok(outcomes) = room_for(alloc, scripts.len()) else {
         give_up_rooms(rooms);
         return Err(Memory);
     };
     let Settings { tint, keep } = settings;
     match World::begin(alloc, plan, models, scripts.len() as u16, tint, keep) {
         Ok((world, begun)) => {
-            let outcomes = Outcomes {
-                sessions,
-                transcripts,
-            };
             let start = Start {
                 sessions: begun,
                 rooms,
@@ -111,10 +107,48 @@ pub fn run_scripts<'m, R: Threads + Wait + Sync, G: Gate + Sync>(
         }
         Err(refused) => {
             give_up_rooms(rooms);
-            sessions.destroy_empty();
+            give_up_outcomes(outcomes);
             Err(refused)
         }
     }
+}
+
+// Room for what comes of so many scripts.
+fn room_for(alloc: Global, number: usize) -> Result<Outcomes, Memory>
+    ensures no_session { IfOk result (λ o. o.sessions.items ≡ []) }
+    ensures no_transcript { IfOk result (λ o. o.transcripts.items ≡ []) }
+    ensures no_room { IfOk result (λ o. o.room.items ≡ []) }
+    ensures sessions { IfOk result (λ o. number ≤ vec_capacity o.sessions) }
+    ensures transcripts { IfOk result (λ o. number ≤ vec_capacity o.transcripts) }
+    ensures room { IfOk result (λ o. number ≤ vec_capacity o.room) }
+{
+    let transcripts = Vec::with_capacity(alloc, number)?;
+    let Ok(sessions) = Vec::with_capacity(alloc, number) else {
+        return Err(Memory);
+    };
+    let Ok(room) = Vec::with_capacity(alloc, number) else {
+        sessions.destroy_empty();
+        return Err(Memory);
+    };
+    Ok(Outcomes {
+        sessions,
+        transcripts,
+        room,
+    })
+}
+
+// Gives up room into which nothing came.
+fn give_up_outcomes(outcomes: Outcomes)
+    requires no_session { outcomes.sessions.items ≡ [] }
+    requires no_room { outcomes.room.items ≡ [] }
+{
+    let Outcomes {
+        sessions,
+        transcripts: _,
+        room,
+    } = outcomes;
+    sessions.destroy_empty();
+    room.destroy_empty();
 }
 
 // Runs the scripts in a world where nothing was done yet.
@@ -147,11 +181,7 @@ fn run_in<'m, R: Threads + Wait + Sync, G: Gate + Sync>(
     let Ok(room) = Vec::with_capacity(alloc, scripts.len()) else {
         give_up_rooms(rooms);
         end_all(sessions);
-        let Outcomes {
-            sessions,
-            transcripts: _,
-        } = outcomes;
-        sessions.destroy_empty();
+        give_up_outcomes(outcomes);
         return Err(Memory);
     };
     let works = give_out(&world, sessions, rooms, scripts, room);
@@ -159,8 +189,13 @@ fn run_in<'m, R: Threads + Wait + Sync, G: Gate + Sync>(
     let Outcomes {
         sessions,
         transcripts,
+        room,
     } = take_in(&world, scripts, works, outcomes);
-    let run = OpenRun { world, sessions };
+    let run = OpenRun {
+        world,
+        sessions,
+        room,
+    };
     Ok(ScriptsRun { run, transcripts })
 }
 
@@ -233,6 +268,7 @@ fn take_in(
     requires no_transcript { outcomes.transcripts.items ≡ [] }
     requires sessions { length scripts.now ≤ vec_capacity outcomes.sessions }
     requires transcripts { length scripts.now ≤ vec_capacity outcomes.transcripts }
+    ensures room { result.room ≡ outcomes.room }
     ensures ran { SessionsRanKeeping _world.now.keep _world.now.tint _world.now.table.plan
         _world.now.table.models 0 scripts.now result.transcripts.items
         (saved_seen result.sessions.items) }
@@ -244,6 +280,7 @@ fn take_in(
     let Outcomes {
         mut sessions,
         mut transcripts,
+        room: spare,
     } = outcomes;
     let mut works = works.into_iter();
     for script in scripts {
@@ -273,5 +310,6 @@ fn take_in(
     Outcomes {
         sessions,
         transcripts,
+        room: spare,
     }
 }

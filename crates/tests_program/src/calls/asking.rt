@@ -135,7 +135,7 @@ pub fn ask_gated<S: Shelf, R: Threads + Wait + Sync, G: Gate + Sync>(
 ) -> Result<(u8, MemorySink), AllocError> {
     let words = words_of(alloc, line)?;
     let mut out = MemorySink::new(alloc);
-    let status = voxdag_gated(rt, gate, alloc, words.as_slice(), shelf, &mut out).status;
+    let status = voxdag_gated(rt, alloc, words.as_slice(), shelf, &mut out, gate).status;
     Ok((status, out))
 }
 

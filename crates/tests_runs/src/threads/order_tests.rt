@@ -201,7 +201,7 @@ fn leaves_its_world<R: Threads + Wait + Sync>(
     let mut shelf = shelf_with(alloc, b"fill 0 0 0 1 1 1\n")?;
     let words = words_of(alloc, line)?;
     let mut out = MemorySink::new(alloc);
-    let gated = voxdag_gated(rt, &NoGate, alloc, words.as_slice(), &mut shelf, &mut out);
+    let gated = voxdag_gated(rt, alloc, words.as_slice(), &mut shelf, &mut out, &NoGate);
     Ok(leaves_one_cell(&gated))
 }
 

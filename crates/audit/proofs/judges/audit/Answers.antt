@@ -7,5 +7,6 @@ pub returns-clause-refused : goal.returns-clause-refused
 returns-clause-refused c =
     let same : c.in-Some.replayed ≡ replay_plan c.args.history.now.side = search rules in
     refused_all c.in-Some.replayed
-    (replay_plan c.args.history.now.side) c.args.models c.args.history.now.records
+    (replay_plan c.args.history.now.side) c.args.models c.args.history.now.marks
+    c.args.history.now.records
     c.audit_over.result same c.audit_over.ensures.refused

@@ -23,12 +23,15 @@ returns-in-Ok-false-clause-all g c = λ marks tells. (
     (c.in-Ok-false.ensures.steps marks tells))))
 
 pub returns-in-Err-clause-refused : goal.returns-in-Err-clause-refused
-returns-in-Err-clause-refused g c =
+returns-in-Err-clause-refused g c = λ marks tells. (
     let r : Record = get_or c.args.records.now c.loop-record.record-index any_record in
-    refused_along c.args.replay.now.plan c.loop-record.replay c.args.replay.now.models c.args.records.now
-    c.loop-record.record-index r any_record c.in-Err.refused c.loop-record.invariant.plan
-    c.loop-record.invariant.models c.loop-record.invariant.are
-    (omega arith) refl c.in-Err.ensures.refused
+    let lt : c.loop-record.record-index < length c.args.records.now = omega arith in
+    refused_along c.args.replay.now.plan c.loop-record.replay c.args.replay.now.models marks
+    c.args.records.now c.step.new.replay.records
+    c.loop-record.record-index c.loop-record.ways.items r any_record c.in-Err.refused
+    c.loop-record.invariant.plan
+    c.loop-record.invariant.models (c.loop-record.invariant.so_far marks tells)
+    lt c.requires.few refl (c.in-Err.ensures.steps marks tells) c.in-Err.ensures.refused)
 
 pub loop-record-preserved : goal.loop-record-preserved
 loop-record-preserved g c =

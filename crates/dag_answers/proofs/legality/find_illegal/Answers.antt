@@ -1,7 +1,7 @@
 use Rattle.std.proofs.Common.{rules, ◌≤◌, ◌^◌, List, [], IsTrue, length, take_all, subst, arith, false}
 use Rattle.history_model.specs.declared.histories.Record.{Record}
 use Rattle.undo.specs.Trails.{trail_position}
-use Rattle.dag_answers.specs.Legality.{AreLegalRecords}
+use Rattle.store_run.specs.Replaying.{AreLegalRecords}
 use Rattle.dag_answers.proofs.EndLaws.{any_record, below_next, first_found, one_more, next_at}
 use Rattle.dag_answers.proofs.legality.find_illegal.Goals as goal
 

@@ -4,7 +4,7 @@ use Rattle.script_files.proofs.outputs.write_history.Goals as goal
 pub returns-in_default-clause-writes : goal.returns-in_default-clause-writes
 returns-in_default-clause-writes g c =
     not_closed c.args.order.now c.args.run c.from.result (g.S.Shelf.state c.args.shelf.now)
-    c.from.ensures.0
+    c.from.ensures.0 c.in_default.ensures.refused
 
 pub returns-clause-writes : goal.returns-clause-writes
 returns-clause-writes g c =

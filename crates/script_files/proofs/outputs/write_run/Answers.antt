@@ -1,6 +1,7 @@
 use Rattle.std.proofs.Common.{ℕ, List, map, subst}
 use Rattle.vw_io.specs.Outputs.{AreWritten, StopsWith}
 use Rattle.transcript.specs.Lines.{transcript_of}
+use Rattle.world_run.specs.Closes.{HadHistory}
 use Rattle.world_run.specs.Open.{RunState}
 use Rattle.script_files.specs.Refusals.{output_name}
 use Rattle.script_files.specs.Requests.{named_texts}
@@ -13,7 +14,7 @@ returns-in-Err-clause-writes g c =
     let r = c.in-Err.refused in
     let old = g.S.Shelf.state c.args.shelf.now in
     let new = g.S.Shelf.state c.write_transcripts.new.shelf in
-    stops_in_texts c.args.order.now c.args.run old r new
+    stops_in_texts c.args.order.now c.args.run old c.give_up.ensures r new
     (subst (λ (names : List (List ℕ)). StopsWith r.why (output_name r.name)
     (named_texts names (map transcript_of c.args.run.transcripts.items)) old.files new.files
     old.faults new.faults) c.requires.named c.in-Err.ensures.writes)
@@ -26,6 +27,8 @@ returns-in-Err-write_saves-clause-writes g c =
     (subst (λ (names : List (List ℕ)). AreWritten
     (named_texts names (map transcript_of c.args.run.transcripts.items)) old.files mid.files)
     c.requires.named c.in_default.ensures.writes.0) c.in_default.ensures.writes.1
+    (subst (λ (s : RunState). HadHistory s.tint s.plan s.models s.sessions)
+    c.in-Err-write_saves.ensures.same c.give_up.ensures)
     c.in-Err-write_saves.refused (g.S.Shelf.state c.write_saves.new.shelf)
     c.in-Err-write_saves.ensures.writes
 

@@ -6,7 +6,7 @@ use Rattle.conformance.specs.sessions.Seen.{MayTint}
 use Rattle.session.specs.Closes.{coloured_as, sessions_seen}
 use Rattle.session.specs.Seen.{WorldSeen}
 use Rattle.session.proofs.ActLaws.{models_of}
-use Rattle.session.proofs.CloseLaws.{closes_world, ends_as}
+use Rattle.session.proofs.CloseLaws.{closes_world, ends_as, legal_left}
 use Rattle.session.proofs.world.World.close.Goals as goal
 
 pub returns-in-Ok-clause-ends : goal.returns-in-Ok-clause-ends
@@ -24,5 +24,6 @@ returns-in-Ok-clause-closes c =
     subst (λ (e : Closed). ClosesWorld c.args.self.tint c.args.self.table.plan c.args.self.table.models (sessions_seen c.args.sessions.items) e.history)
     (sym (c.of.ensures
     ∙ ap (λ (w : WorldSeen). coloured_as w.tint c.in-Ok.closed) c.self.view_is))
-    (closes_world c.args.self.tint c.args.self.table may c.args.sessions.items c.in-Ok.closed c.requires.rest ends
+    (closes_world c.args.self.tint c.args.self.table may c.args.sessions.items
+    c.in-Ok.closed.history c.requires.rest (legal_left c.args.self.table c.in-Ok.closed ends)
     c.in-Ok.ensures.history had)

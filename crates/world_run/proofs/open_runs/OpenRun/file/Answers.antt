@@ -11,6 +11,8 @@ invariant_of-self c = (
   length-set c.self.inside.sessions.items c.place_of-place.result.session c.file_in.new.s
       ∙ c.self.invariant.1,
   (let few = c.self.invariant.2 in let long = length-set c.self.inside.sessions.items c.place_of-place.result.session c.file_in.new.s in omega arith),
+  c.self.invariant.3,
+  (let wide = c.self.invariant.4 in let long = length-set c.self.inside.sessions.items c.place_of-place.result.session c.file_in.new.s in omega arith),
 )
 
 pub returns-clause-file : goal.returns-clause-file
