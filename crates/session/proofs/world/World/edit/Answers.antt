@@ -6,7 +6,7 @@ use Rattle.session.proofs.world.World.edit.Goals as goal
 pub attempt-requires-clause-room : goal.attempt-requires-clause-room
 attempt-requires-clause-room g c =
     pinned_room c.args.s.now.view c.pin_head-base.new.s.view c.pin_head-base.result.root
-    c.pin_head-base.ensures.gains 3900 c.requires.room
+    c.pin_head-base.ensures.gains 3900 c.requires.ready.room
 
 pub attempt-requires-clause-recalls : goal.attempt-requires-clause-recalls
 attempt-requires-clause-recalls g c =
@@ -17,16 +17,16 @@ attempt-requires-clause-recalls g c =
 pub give_root-requires-clause-room : goal.give_root-requires-clause-room
 give_root-requires-clause-room g c =
     base_room c.args.s.now.view c.pin_head-base.new.s.view c.pin_head-base.result.root
-    c.pin_head-base.ensures.gains c.attempt.new.s.view c.in-Ok.ensures.comes.0 c.requires.room
+    c.pin_head-base.ensures.gains c.attempt.new.s.view c.in-Ok.ensures.comes.0 c.requires.ready.room
 
 pub edit_surely-answer-requires-clause-room : goal.edit_surely-answer-requires-clause-room
 edit_surely-answer-requires-clause-room g c =
-    two_few _ _ _ _ _ c.pin_head-base.ensures.gains c.in-Err.ensures.comes.gains c.requires.room
+    two_few _ _ _ _ _ c.pin_head-base.ensures.gains c.in-Err.ensures.comes.gains c.requires.ready.room
 
 pub give_root-requires-in-Err-clause-room : goal.give_root-requires-in-Err-clause-room
 give_root-requires-in-Err-clause-room g c =
     two_room _ _ _ _ _ _ c.pin_head-base.ensures.gains c.in-Err.ensures.comes.gains
-    c.edit_surely-answer.ensures.held c.requires.room
+    c.edit_surely-answer.ensures.held c.requires.ready.room
 
 pub give_root-requires-in-Err-2-clause-room : goal.give_root-requires-in-Err-2-clause-room
 give_root-requires-in-Err-2-clause-room g c =
@@ -34,7 +34,7 @@ give_root-requires-in-Err-2-clause-room g c =
     c.pin_head-base.ensures.gains c.give_root-in-Err.new.s.view
     (base_gone c.pin_head-base.new.s.view c.attempt.new.s.view _ c.in-Err.ensures.comes.gains
     c.edit_surely-answer.new.s.view c.give_root-in-Err.new.s.view c.in-Err.field-0.root refl
-    c.edit_surely-answer.ensures.held c.give_root-in-Err.ensures.gone) c.requires.room
+    c.edit_surely-answer.ensures.held c.give_root-in-Err.ensures.gone) c.requires.ready.room
 
 pub give_root-requires-in-Err-2-clause-held : goal.give_root-requires-in-Err-2-clause-held
 give_root-requires-in-Err-2-clause-held g c =
