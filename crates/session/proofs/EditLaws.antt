@@ -1,5 +1,6 @@
 -- An edit, by an attempt and, too late, by one under the log's turn.
 use Rattle.std.proofs.Common.{◌≡◌, ◌<◌, ◌≤◌, ◌+◌, ℕ, Option, List, [], ◌∷◌, ◌++◌, length, sym, ◌∙◌, ap, subst, arith, length-append}
+use Rattle.std.specs.List.{Contains}
 use Rattle.history_model.specs.declared.acts.Act.{Act}
 use Rattle.node_words.specs.declared.shapes.names.Name.{Name}
 use Rattle.node_words.specs.shapes.Tree.{Tree}
@@ -21,7 +22,7 @@ use Rattle.conformance.specs.sessions.Seen.{SessionSeen}
 use Rattle.conformance.specs.sessions.Told.{ActFull, ActStale, ActTold, OnceTold}
 use Rattle.session.specs.declared.attempts.EditAnswer.{EditAnswer}
 use Rattle.session.specs.declared.attempts.EditAnswer.TheVariants as edits
-use Rattle.session.specs.Attempts.{AnswersAct, AnswersOnce, IsLate, act_answer, once_answer}
+use Rattle.session.specs.Attempts.{AnswersAct, AnswersOnce, HasPinnedHead, IsLate, act_answer, once_answer}
 use Rattle.session.specs.Seen.{WorldSeen, of_world, session_seen}
 use Rattle.session.proofs.CommitLaws.{back_same, few_gained, may_back, same_number_held}
 use Rattle.session.proofs.WorkLaws.{answers_after, answers_still, looks_work, told_after, works_on}
@@ -131,12 +132,12 @@ once_told t line act a x v w same told number one =
     by edits.LogFull h = h
 
 pub stale_told : (t : WorldSeen) (line : ℕ) (act : Act) (base : Pinned) (late : Late)
-    (v w x y z : SeatView) → LooksOn v w → base.moment ≡ number_seen w
+    (v w x y z : SeatView) → LooksOn v w → HasPinnedHead w base
     → IsLate t.table act base late w x → session_seen y ≡ session_seen x
     → session_seen z ≡ session_seen y → (number : ℕ) → v.numbers ≡ number ∷ []
     → OnceTold (of_world t number) line act (session_seen v) (session_seen z)
     (once.Stale late.at base.moment)
-stale_told t line act base late v w x y z looks now is first second number one =
+stale_told t line act base late v w x y z looks head is first second number one =
     subst (λ (s : SessionSeen). OnceTold (of_world t number) line act (session_seen v) s
     (once.Stale late.at base.moment)) (sym (second ∙ first))
     (let works = works_on t.table act v w x (looks_work t.table act v w looks) is.works in
@@ -145,11 +146,15 @@ stale_told t line act base late v w x y z looks now is first second number one =
     ap length long
     in
     let both = length-append v.log.seen.records looks.sees.seen.more in
+    let now = head.now in
     record {
       at_is = is.at_is;
       nothing = works.nothing;
       notes = works.notes;
       low = omega arith;
+      pinned = is.works.sees.found.each (record { version = base.moment; at = base.moment })
+          (subst (λ (n : ℕ). Contains w.log.found (record { version = n; at = base.moment }))
+          head.head head.pinned.found);
       over = subst (λ (n : ℕ). base.moment < n) is.at_is is.over;
       room = subst (λ (n : ℕ). n < 65535) is.at_is is.room;
     })

@@ -9,7 +9,7 @@ ghost use Rattle.node_words.specs.Held.{SameHeld};
 ghost use Rattle.node_table.specs.Seen.{SamePass};
 ghost use Rattle.conformance.specs.sessions.Told.{ActTold, OnceTold};
 ghost use Rattle.session.specs.Attempts.{AnswersAct, AnswersOnce, IsMaker, act_answer, once_answer};
-ghost use Rattle.session.specs.Resting.{Calls, IsAtRest, IsReady};
+ghost use Rattle.session.specs.Resting.{Calls, IsAtRest, IsBlankOf, IsReady};
 ghost use Rattle.session.specs.Seen.{IsActOf, KnowsItself, of_world, session_seen};
 
 use crate::attempts::{EditAnswer, Late};
@@ -19,8 +19,9 @@ use gate_run::Gate;
 use hands::{ActMaker, AnyAct, BallAct, BoxAct, CopyAct, box_may_repeat, copy_may_repeat};
 use history_model::Act;
 use node_words::{Share, Steps};
+use std::marker::Brand;
 use std::sync::Wait;
-use std::sync::ledger::Ledger;
+use std::sync::ledger::{Blank, Ledger};
 use version_log::Pinned;
 use vw_cell::{Ball, Boxed, Cell};
 
@@ -64,14 +65,13 @@ impl<'m> World<'m> {
     /// made again while no other session commits, so this is never `Stale`.
     ///
     /// It passes the gate between the first attempt and its commit.
-    pub fn act<R: Wait, G: Gate, L: Ledger>(
+    pub fn act<R: Wait, G: Gate>(
         &self,
         rt: &R,
         s: &mut Session,
         line: u32,
         act: &Act,
         gate: &G,
-        steps: &mut Steps<L>,
     ) -> ActAnswer
         requires rest { IsAtRest self.now.table s.old }
         requires fits { IsActOf self.now act.now }
@@ -84,9 +84,28 @@ impl<'m> World<'m> {
             (session_seen s.new.view) result }
         ensures knows { KnowsItself s.new.view }
     {
-        let answer = self.carry_out(rt, s, line, act, gate, steps);
+        let answer = self.act_on::<R, G, Brand>(rt, s, line, act, gate, Blank::new(1));
         s.tell();
         answer
+    }
+
+    fn act_on<R: Wait, G: Gate, L: Ledger>(
+        &self,
+        rt: &R,
+        s: &mut Session,
+        line: u32,
+        act: &Act,
+        gate: &G,
+        blank: Blank,
+    ) -> ActAnswer
+        requires ready { IsReady self.now.table 3900 s.old }
+        requires fits { IsActOf self.now act.now }
+        requires blank { IsBlankOf blank.name blank.parts L.name L.parts }
+        ensures calls { Calls self.now.table s.old s.new }
+        ensures told { AnswersAct self.now line act.now result s.old.view s.new.view }
+    {
+        let mut steps: Steps<L> = Steps::start(blank);
+        self.carry_out(rt, s, line, act, gate, &mut steps)
     }
 
     fn carry_out<R: Wait, G: Gate, L: Ledger>(
@@ -314,14 +333,13 @@ impl<'m> World<'m> {
     }
 
     /// Attempts the edit once.
-    pub fn act_once<R: Wait, G: Gate, L: Ledger>(
+    pub fn act_once<R: Wait, G: Gate>(
         &self,
         rt: &R,
         s: &mut Session,
         line: u32,
         act: &Act,
         gate: &G,
-        steps: &mut Steps<L>,
     ) -> OnceAnswer
         requires rest { IsAtRest self.now.table s.old }
         requires edit { is_edit act.now ≡ true }
@@ -335,8 +353,28 @@ impl<'m> World<'m> {
             (session_seen s.new.view) result }
         ensures knows { KnowsItself s.new.view }
     {
-        let answer = self.attempt_anew(rt, s, line, act, gate, steps);
+        let answer = self.act_once_on::<R, G, Brand>(rt, s, line, act, gate, Blank::new(1));
         s.tell();
         answer
+    }
+
+    fn act_once_on<R: Wait, G: Gate, L: Ledger>(
+        &self,
+        rt: &R,
+        s: &mut Session,
+        line: u32,
+        act: &Act,
+        gate: &G,
+        blank: Blank,
+    ) -> OnceAnswer
+        requires ready { IsReady self.now.table 3900 s.old }
+        requires edit { is_edit act.now ≡ true }
+        requires fits { IsActOf self.now act.now }
+        requires blank { IsBlankOf blank.name blank.parts L.name L.parts }
+        ensures calls { Calls self.now.table s.old s.new }
+        ensures told { AnswersOnce self.now line act.now result s.old.view s.new.view }
+    {
+        let mut steps: Steps<L> = Steps::start(blank);
+        self.attempt_anew(rt, s, line, act, gate, &mut steps)
     }
 }

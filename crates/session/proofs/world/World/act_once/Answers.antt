@@ -3,5 +3,5 @@ use Rattle.session.proofs.world.World.act_once.Goals as goal
 
 pub returns-clause-knows : goal.returns-clause-knows
 returns-clause-knows g c =
-    knows_back c.args.self.now.table c.attempt_anew-answer.new.s
-    c.attempt_anew-answer.ensures.calls.rest c.tell.ensures
+    knows_back c.args.self.now.table c.act_once_on-answer.new.s
+    c.act_once_on-answer.ensures.calls.rest c.tell.ensures

@@ -48,7 +48,7 @@ returns-in-Err-clause-told g c =
     stale_told c.args.self.now c.args.line c.args.act.now c.pin_head-base.result
     c.in-Err.field-0 c.args.s.now.view c.pin_head-base.new.s.view c.attempt.new.s.view
     c.give_root-in-Err.new.s.view c.give_root-in-Err-2.new.s.view c.pin_head-base.ensures.looks
-    c.pin_head-base.ensures.head.now c.in-Err.ensures.comes c.give_root-in-Err.ensures.seen
+    c.pin_head-base.ensures.head c.in-Err.ensures.comes c.give_root-in-Err.ensures.seen
     c.give_root-in-Err-2.ensures.seen
 
 pub attempt-requires-clause-maker : goal.attempt-requires-clause-maker

@@ -3,7 +3,7 @@ use Rattle.node_table.specs.Closing.{EndsTable, HadEnough}
 use Rattle.node_table.specs.declared.closed.Closed.{Closed}
 use Rattle.conformance.specs.sessions.Ran.{ClosesWorld}
 use Rattle.conformance.specs.sessions.Seen.{MayTint}
-use Rattle.session.specs.Closes.{coloured_as, sessions_seen}
+use Rattle.session.specs.Closes.{TellsLive, coloured_as, sessions_seen}
 use Rattle.session.specs.Seen.{WorldSeen}
 use Rattle.session.proofs.ActLaws.{models_of}
 use Rattle.session.proofs.CloseLaws.{closes_world, ends_as}
@@ -14,6 +14,11 @@ returns-in-Ok-clause-ends c =
     let ends : EndsTable c.args.self.table c.in-Ok.closed = search rules in
     subst (λ (e : Closed). EndsTable c.args.self.table e) (sym c.of.ensures)
     (ends_as c.self.inside.tint c.args.self.table c.in-Ok.closed ends)
+
+pub returns-in-Ok-clause-live : goal.returns-in-Ok-clause-live
+returns-in-Ok-clause-live c =
+    let live : TellsLive c.args.self.table c.in-Ok.closed = search rules in
+    subst (λ (e : Closed). TellsLive c.args.self.table e) (sym c.of.ensures) live
 
 pub returns-in-Ok-clause-closes : goal.returns-in-Ok-clause-closes
 returns-in-Ok-clause-closes c =
