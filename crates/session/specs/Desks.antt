@@ -24,8 +24,8 @@ pub record DeskStands (w : TableSeen) (number first most : ℕ) (s : PassSeen) (
 
 -- it is one of the same world, over the same session, and what it has lent stands where the
 -- lender's stands; the pins that stood first do so still
-pub record StaysAtDesk (w x : WorldSeen) (s t : MutBor PassSeen) (m n : ℕ)
-    (p q : MutBor (Vec Pinned)) : Type 0 where
+pub record StaysAtDesk {Z : Type 0} (w x : WorldSeen) (s t : MutBor PassSeen) (m n : ℕ)
+    (p q : MutBor (Vec Pinned Z)) : Type 0 where
   pub world : x ≡ w
   pub session : t.ghost_name ≡ s.ghost_name
   pub saves : q.ghost_name ≡ p.ghost_name
@@ -33,8 +33,8 @@ pub record StaysAtDesk (w x : WorldSeen) (s t : MutBor PassSeen) (m n : ℕ)
   pub first : n ≡ m
   pub kept : take m q.now.items ≡ take m p.now.items
 
-pub desk_itself : (w : WorldSeen) (s : MutBor PassSeen) (m : ℕ) (p : MutBor (Vec Pinned))
-    → StaysAtDesk w w s s m m p p
+pub desk_itself : {Z : Type 0} (w : WorldSeen) (s : MutBor PassSeen) (m : ℕ)
+    (p : MutBor (Vec Pinned Z)) → StaysAtDesk w w s s m m p p
 desk_itself w s m p = record {
   world = refl;
   session = refl;
@@ -47,8 +47,8 @@ desk_itself w s m p = record {
   kept = refl;
 }
 
-pub desk_on : (w x y : WorldSeen) (s t u : MutBor PassSeen) (m n k : ℕ)
-    (p q r : MutBor (Vec Pinned)) → StaysAtDesk w x s t m n p q → StaysAtDesk x y t u n k q r
+pub desk_on : {Z : Type 0} (w x y : WorldSeen) (s t u : MutBor PassSeen) (m n k : ℕ)
+    (p q r : MutBor (Vec Pinned Z)) → StaysAtDesk w x s t m n p q → StaysAtDesk x y t u n k q r
     → StaysAtDesk w y s u m k p r
 desk_on w x y s t u m n k p q r f g =
     let v = f.same.session in
