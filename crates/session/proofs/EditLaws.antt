@@ -98,7 +98,18 @@ stale_answers t line act answer at base u v w same f g number one =
     told_after t number line act (session_seen u) (session_seen v) (session_seen w) x.nothing
     x.notes answer (g number (same ∙ one))
 
+-- the same of an act that is the same
+pub answers_as : (t : WorldSeen) (line : ℕ) (act made : Act) (answer : ActAnswer) (v w : SeatView)
+    → made ≡ act → AnswersAct t line made answer v w → AnswersAct t line act answer v w
+answers_as t line act made answer v w same told =
+    subst (λ (z : Act). AnswersAct t line z answer v w) same told
+
 -- ---- shares that came
+
+-- as many are held again
+pub still_few : (a b : List Tree) → SameHeld a b → number_of_trees a ≤ 3900
+    → number_of_trees b ≤ 3900
+still_few a b same few = let e = same_number_held a b same in omega arith
 
 pub two_few : (a b c : List Tree) (q r : Option Name) → GetsRoot a q b → GetsRoot b r c
     → number_of_trees a ≤ 3900 → number_of_trees c ≤ 3902

@@ -1,5 +1,5 @@
 //! A session runs its script.
-ghost use Rattle.std.specs.Prelude.{◌≡◌, ◌+◌, ◌≤◌, ◌<◌, ◌∷◌, [], ℕ, length, vec_capacity, vec_len};
+ghost use Rattle.std.specs.Prelude.{◌≡◌, ◌+◌, ◌≤◌, ◌∷◌, [], ℕ, length, vec_capacity, vec_len};
 ghost use Rattle.node_table.specs.Seen.{SamePass};
 ghost use Rattle.script.specs.Fitting.{RisesFrom};
 ghost use Rattle.conformance.specs.sessions.Runs.{RunsScript};

@@ -26,3 +26,11 @@ pub returns-in-Err-clause-told : goal.returns-in-Err-clause-told
 returns-in-Err-clause-told g c = λ number.
     refused c.args.version c.args.s.now.view c.pin.new.pass.view c.in-Err.refused
     c.in-Err.ensures.looks c.in-Err.ensures.refused
+
+pub returns-in-Ok-clause-calls : goal.returns-in-Ok-clause-calls
+returns-in-Ok-clause-calls g c =
+    record { rest = search rules; same = search rules; held = search rules }
+
+pub returns-in-Err-clause-calls : goal.returns-in-Err-clause-calls
+returns-in-Err-clause-calls g c =
+    record { rest = search rules; same = search rules; held = search rules }

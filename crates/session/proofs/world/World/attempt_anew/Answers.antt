@@ -56,3 +56,11 @@ attempt-requires-clause-maker g c =
     maker_of c.args.self.now _ _ _ c.args.act.now _
     (models_of c.args.self.now _ _ _ c.self.view_is c.self.invariant) c.requires.fits
     c.requires.edit refl refl
+
+pub returns-in-Ok-clause-calls : goal.returns-in-Ok-clause-calls
+returns-in-Ok-clause-calls g c =
+    record { rest = search rules; same = search rules; held = search rules }
+
+pub returns-in-Err-clause-calls : goal.returns-in-Err-clause-calls
+returns-in-Err-clause-calls g c =
+    record { rest = search rules; same = search rules; held = search rules }

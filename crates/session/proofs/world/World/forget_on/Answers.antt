@@ -1,3 +1,4 @@
+use Rattle.std.proofs.Common.{rules}
 use Rattle.session.proofs.ForgetLaws.{few_held, forgot_told, refused_told}
 use Rattle.session.proofs.world.World.forget_on.Goals as goal
 
@@ -17,3 +18,11 @@ returns-in-Err-clause-told g c = λ number one.
     refused_told c.args.self.now number c.args.line c.args.version c.args.s.now.view c.forget.new.pass.view
     c.in-Err.refused c.in-Err.ensures.looks
     c.in-Err.ensures.refused
+
+pub returns-in-Ok-clause-calls : goal.returns-in-Ok-clause-calls
+returns-in-Ok-clause-calls g c =
+    record { rest = search rules; same = search rules; held = search rules }
+
+pub returns-in-Err-clause-calls : goal.returns-in-Err-clause-calls
+returns-in-Err-clause-calls g c =
+    record { rest = search rules; same = search rules; held = search rules }
