@@ -22,8 +22,8 @@ returns-in-Ok-clause-told g c = λ number.
     c.tell_root-answer.new.s c.give_back.new.s c.tell_root-answer.ensures.stays
     c.tell_root-answer.ensures.seen c.give_back.ensures.stays c.give_back.ensures.only
 
-pub returns-in-Err-clause-told : goal.returns-in-Err-clause-told
-returns-in-Err-clause-told g c = λ number.
+pub returns-clause-told : goal.returns-clause-told
+returns-clause-told g c = λ number.
     refused c.args.version c.args.s.now.view c.pin.new.pass.view c.in-Err.refused
     c.in-Err.ensures.looks c.in-Err.ensures.refused
 
@@ -31,6 +31,6 @@ pub returns-in-Ok-clause-calls : goal.returns-in-Ok-clause-calls
 returns-in-Ok-clause-calls g c =
     record { rest = search rules; same = search rules; held = search rules }
 
-pub returns-in-Err-clause-calls : goal.returns-in-Err-clause-calls
-returns-in-Err-clause-calls g c =
+pub returns-clause-calls : goal.returns-clause-calls
+returns-clause-calls g c =
     record { rest = search rules; same = search rules; held = search rules }

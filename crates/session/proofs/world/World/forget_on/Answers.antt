@@ -13,8 +13,8 @@ returns-in-Ok-clause-told g c = λ number one.
     c.forget.new.pass c.give_back.new.s c.in-Ok.field-0 one c.in-Ok.ensures.forgets
     c.give_back.ensures.stays c.give_back.ensures.only
 
-pub returns-in-Err-clause-told : goal.returns-in-Err-clause-told
-returns-in-Err-clause-told g c = λ number one.
+pub returns-clause-told : goal.returns-clause-told
+returns-clause-told g c = λ number one.
     refused_told c.args.self.now number c.args.line c.args.version c.args.s.now.view c.forget.new.pass.view
     c.in-Err.refused c.in-Err.ensures.looks
     c.in-Err.ensures.refused
@@ -23,6 +23,6 @@ pub returns-in-Ok-clause-calls : goal.returns-in-Ok-clause-calls
 returns-in-Ok-clause-calls g c =
     record { rest = search rules; same = search rules; held = search rules }
 
-pub returns-in-Err-clause-calls : goal.returns-in-Err-clause-calls
-returns-in-Err-clause-calls g c =
+pub returns-clause-calls : goal.returns-clause-calls
+returns-clause-calls g c =
     record { rest = search rules; same = search rules; held = search rules }
