@@ -1,4 +1,5 @@
 use Rattle.std.proofs.Common.{refl, rules}
+use Rattle.conformance.specs.declared.sessions.calls.ActAnswer.TheVariants as acts
 use Rattle.session.proofs.CommitLaws.{held_on}
 use Rattle.session.proofs.EditLaws.{act_told, again_answers, answers_as, base_back, base_gone, base_room, full_answers_on, pinned_answers, pinned_room, still_few, two_few, two_room}
 use Rattle.session.proofs.SurelyLaws.{gets_keeps}
@@ -89,12 +90,14 @@ returns-in-Full-clause-calls g c =
 
 pub returns-in-Full-clause-told : goal.returns-in-Full-clause-told
 returns-in-Full-clause-told g c =
-    full_answers_on c.args.self.now c.args.line c.args.act.now _ _ _ c.args.s.now.view
-    c.give_root-in-Err-2.new.s.view c.surely_anew.new.s.view (search rules)
-    (answers_as c.args.self.now c.args.line c.args.act.now _ _ c.args.s.now.view
+    full_answers_on c.args.self.now c.args.line c.args.act.now _ c.in-Full.at
+    c.in-Full.full c.args.s.now.view c.give_root-in-Err-2.new.s.view c.surely_anew.new.s.view (search rules)
+    (answers_as c.args.self.now c.args.line c.args.act.now _
+    (acts.Full c.in-Full.at c.in-Full.full) c.args.s.now.view
     c.give_root-in-Err-2.new.s.view c.requires.act
     (again_answers c.args.self.now c.args.line (g.M.ActMaker.act c.args.maker.now)
-    (g.M.ActMaker.act c.attempt.new.maker) _ c.pin_head-base.result c.in-Err.field-0
+    (g.M.ActMaker.act c.attempt.new.maker) (acts.Full c.in-Full.at c.in-Full.full)
+    c.pin_head-base.result c.in-Err.field-0
     c.args.s.now.view c.pin_head-base.new.s.view c.attempt.new.s.view
     c.edit_surely-answer.new.s.view c.give_root-in-Err.new.s.view
     c.give_root-in-Err-2.new.s.view c.pin_head-base.ensures.looks c.in-Err.ensures.comes
