@@ -20,7 +20,7 @@ use Rattle.table_rule.specs.LogTelling.{seen_has}
 use Rattle.table_rule.specs.Views.{SeatView, seen_of}
 use Rattle.version_log.specs.Pins.{PinsVersion, version_asked}
 use Rattle.version_log.specs.Roots.{GetsRoot, HoldsRootOf}
-use Rattle.version_log.specs.Seeing.{IsDated, LooksOn}
+use Rattle.version_log.specs.Seeing.{LooksOn}
 use Rattle.version_log.specs.Pins.{RefusesPin}
 use Rattle.version_log.specs.declared.pinned.Pinned.{Pinned}
 use Rattle.retain.specs.declared.refusals.PinRefused.{PinRefused}
@@ -31,14 +31,13 @@ use Rattle.conformance.specs.sessions.Told.{WasAsked, PinIsRefused, TellsKept, p
 use Rattle.hands.specs.Lendable.{StaysLendable}
 use Rattle.node_words.specs.Plans.{Layout}
 use Rattle.table_rule.specs.LogViews.{LogView}
-use Rattle.table_rule.specs.Telling.{ViewTells}
 use Rattle.node_table.specs.Seen.{TableSeen, PassSeen}
 use Rattle.session.specs.Resting.{IsAtRest}
 use Rattle.session.specs.Roots.{TellsHeld}
-use Rattle.session.specs.Seen.{KnowsItself, WorldSeen, of_world, session_seen}
+use Rattle.session.specs.Seen.{WorldSeen, of_world, session_seen}
 use Rattle.session.proofs.ForgetLaws.{same_seen}
 use Rattle.session.proofs.SameLaws.{finds}
-use Rattle.session.proofs.SeenLaws.{knows_itself, models_stay, only_sees}
+use Rattle.session.proofs.SeenLaws.{models_stay, only_sees}
 
 -- what may be held is no node, or is held
 pub held_or_gone : (held : List Tree) (t : Tree) → MayHold held t → (t ≡ Gone) ⊎ IsHeld held t
@@ -196,15 +195,6 @@ module _ (t : WorldSeen) (number : ℕ) (asked : Option ℕ) (question : Questio
       (sym (same_seen w.view z.view (back.log ∙ read.log)
       (only.made ∙ ap (λ (s : Seen). s.made) seen) (only.met ∙ ap (λ (s : Seen). s.met) seen)))
       asked_here
-
-  pub knows_asked : (x z : PassSeen) → StaysLendable t.table w x → StaysLendable t.table x z
-      → ViewTells z.view
-      → KnowsItself z.view
-  knows_asked x z read back view_tells =
-      knows_itself z.view view_tells
-      (ap (λ (l : LogView). l.taken) (back.log ∙ read.log) ∙ looks.sees.taken ∙ r.alone)
-      (subst (λ (l : LogView). IsDated l.seen) (sym (back.log ∙ read.log))
-      (looks.sees.dated r.dated))
 
 pub may_walk_as : (t : TableSeen) (v w : PassSeen) (asked : Option ℕ) (p : Pinned)
     (root : Option Name) → root ≡ p.root → IsAtRest t v → LooksOn v.view w.view

@@ -12,6 +12,9 @@ use Rattle.node_words.specs.shapes.Shape.{Shape}
 use Rattle.node_words.specs.Enough.{HasEnough}
 use Rattle.node_words.specs.Held.{Wanted}
 use Rattle.node_words.specs.Plans.{Layout}
+use Rattle.history_model.specs.Stores.{store_has}
+use Rattle.core_laws.specs.contents.Aligned.{world_block}
+use Rattle.core_laws.specs.contents.Contents.{IsFilled}
 use Rattle.core_laws.specs.contents.Versions.{IsKept}
 use Rattle.core_laws.specs.Counting.{booked, parented, rooted}
 use Rattle.core_laws.specs.Soundness.{SoundEntries, SoundVersions}
@@ -29,7 +32,7 @@ use Rattle.node_table.specs.declared.closed.Root.{Root}
 use Rattle.conformance.specs.sessions.Ran.{ClosesWorld, StillFound, records_of_all, marks_of_all, made_of_all, met_of_all}
 use Rattle.conformance.specs.sessions.Seen.{SessionSeen, MayTint, log_as}
 use Rattle.session.proofs.BeginLaws.{get_there}
-use Rattle.session.specs.Closes.{coloured_as, sessions_seen}
+use Rattle.session.specs.Closes.{TellsLive, coloured_as, sessions_seen}
 use Rattle.session.specs.Resting.{IsAtRest}
 use Rattle.session.specs.Seen.{log_seen, session_seen}
 
@@ -156,6 +159,34 @@ ends_as coloured t closed ends =
         each = ends.live.each;
         above = ends.live.above;
       };
+    }
+
+-- and so are the numbers of live entries
+pub lives_as : (coloured : Bool) (t : TableSeen) (closed : Closed) → TellsLive t closed
+    → TellsLive t (coloured_as coloured closed)
+lives_as coloured t closed live level below =
+    let h = live level below in
+    let log : Log = closed.history in
+    record {
+      sites = h.sites;
+      as_many = h.as_many;
+      filled = All-weaker
+          (IsFilled (world_block t.plan.side) (λ v. store_has t.models log v) (IsKept log) level)
+          (IsFilled (world_block t.plan.side) (λ v. store_has t.models log v)
+          (IsKept (log_as coloured log)) level)
+          (λ s f. record {
+            there = kept_as coloured log s.version f.there;
+            aligned = f.aligned;
+            same_level = f.same_level;
+            some = f.some;
+          }) h.sites h.filled;
+      different = h.different;
+      complete = λ s f. h.complete s (record {
+        there = kept_back coloured log s.version f.there;
+        aligned = f.aligned;
+        same_level = f.same_level;
+        some = f.some;
+      });
     }
 
 -- ---- the world

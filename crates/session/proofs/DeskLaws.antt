@@ -1,14 +1,15 @@
 -- What each call tells of its session, for the desk.
-use Rattle.std.proofs.Common.{◌≡◌, ℕ, ◌-◌, ◌≤◌, Option, Result, Ok, Err, List, [], ◌∷◌, ◌++◌, length, length-append, ap, sym, subst, ◌∙◌, arith}
-use Rattle.std.proofs.lemmas.List.{map_push}
+use Rattle.std.proofs.Common.{◌≡◌, ℕ, ◌+◌, ◌-◌, ◌≤◌, Option, Result, Ok, Err, List, [], ◌∷◌, ◌++◌, drop, length, length-append, take, ap, sym, subst, ◌∙◌, arith}
+use Rattle.std.proofs.lemmas.List.{drop-append-le, drop_all, length-drop, map_push, take-append-drop, take-append-le, take_all}
 use Rattle.node_words.specs.shapes.Tree.{Tree}
 use Rattle.node_words.specs.shapes.Weights.{weigh, number_of_trees}
 use Rattle.node_words.specs.Held.{SameHeld}
+use Rattle.table_rule.specs.Views.{SeatView}
 use Rattle.node_table.specs.Seen.{TableSeen, PassSeen, SamePass}
 use Rattle.version_log.specs.declared.pinned.Pinned.{Pinned}
 use Rattle.session.specs.Desks.{DeskStands}
 use Rattle.session.specs.Resting.{IsAtRest}
-use Rattle.session.specs.Saves.{AddsPin, HoldsSaves, pinned_versions}
+use Rattle.session.specs.Saves.{AddsPin, SeatHoldsMore, SeatHoldsPins, pinned_versions}
 use Rattle.session.specs.Seen.{WorldSeen, of_world, session_seen}
 use Rattle.session.proofs.SaveLaws.{few_held, no_pins, one_more, still_held}
 use Rattle.history_model.specs.declared.acts.Act.{Act}
@@ -86,12 +87,13 @@ module _ (of : SessionOf) (old new : SessionSeen) where
 
 -- ---- what holds of the desk between two lines
 
-module _ (w : TableSeen) (number most : ℕ) (s : PassSeen) (saves : List Pinned) (capacity : ℕ)
-    (d : DeskStands w number most s saves capacity) where
+module _ (w : TableSeen) (number first most : ℕ) (s : PassSeen) (saves : List Pinned)
+    (capacity : ℕ) (d : DeskStands w number first most s saves capacity) where
   -- there is room for the shares of one call
   pub few_shares : number_of_trees s.view.held ≤ 3900
   few_shares =
-      let few = few_held w (session_seen s.view) s.view.held saves d.holds in
+      let few = few_held w (session_seen s.view) s.view.held (drop first saves) d.holds in
+      let own = length-drop first saves in
       let a = d.few in
       let b = d.fewer in
       omega arith
@@ -101,12 +103,13 @@ module _ (w : TableSeen) (number most : ℕ) (s : PassSeen) (saves : List Pinned
 
   pub desk_goes_on : (z : PassSeen) → IsAtRest w z → SamePass s z → SameHeld s.view.held z.view.held
       → FollowsHistory (session_seen s.view) (session_seen z.view)
-      → DeskStands w number most z saves capacity
+      → DeskStands w number first most z saves capacity
   desk_goes_on z rest same held sees = record {
     rest = rest;
     mine = same_number z same;
+    begun = d.begun;
     holds = still_held w (session_seen s.view)
-        (session_seen z.view) s.view.held z.view.held saves d.holds held sees;
+        (session_seen z.view) s.view.held z.view.held (drop first saves) d.holds held sees;
     few = d.few;
     fewer = d.fewer;
     room = d.room;
@@ -115,12 +118,16 @@ module _ (w : TableSeen) (number most : ℕ) (s : PassSeen) (saves : List Pinned
   pub desk_saves : (z : PassSeen) (p : Pinned) (more : List Pinned) → 1 ≤ most - length saves
       → IsAtRest w z → SamePass s z → AddsPin w (session_seen z.view) s.view.held z.view.held p
       → FollowsHistory (session_seen s.view) (session_seen z.view) → more ≡ saves ++ p ∷ []
-      → (wide : ℕ) → wide ≡ capacity → DeskStands w number most z more wide
+      → (wide : ℕ) → wide ≡ capacity → DeskStands w number first most z more wide
   desk_saves z p more room rest same adds sees is wide as_wide = record {
     rest = rest;
     mine = same_number z same;
-    holds = one_more w (session_seen s.view)
-        (session_seen z.view) s.view.held z.view.held saves more p d.holds sees adds is;
+    begun = (let long = ap length is in let one = length-append saves (p ∷ []) in
+        let there = d.begun in omega arith);
+    holds = one_more w (session_seen s.view) (session_seen z.view) s.view.held z.view.held
+        (drop first saves) (drop first more) p d.holds sees adds
+        (ap (λ (ps : List Pinned). drop first ps) is
+        ∙ drop-append-le first saves (p ∷ []) d.begun);
     few = (let long = ap length is in let one = length-append saves (p ∷ []) in omega arith);
     fewer = d.fewer;
     room = (let all = d.room in omega arith);
@@ -131,18 +138,26 @@ same_if old new e = record { weighs = λ f. ap (weigh f) e }
 
 -- ---- a session that begins, and what it saves
 
-pub desk_begins : (w : TableSeen) (number most : ℕ) (s : PassSeen) (saves : List Pinned)
-    (capacity : ℕ) → IsAtRest w s → s.view.numbers ≡ number ∷ [] → s.view.held ≡ [] → saves ≡ []
-    → most ≤ 3900 → most ≤ capacity
-    → DeskStands w number most s saves capacity
-desk_begins w number most s saves capacity rest mine held none fewer room = record {
+pub desk_begins : (w : TableSeen) (number first most : ℕ) (s : PassSeen) (saves : List Pinned)
+    (capacity : ℕ) → IsAtRest w s → s.view.numbers ≡ number ∷ [] → s.view.held ≡ []
+    → first ≡ length saves → length saves ≤ most → most ≤ first + 3900 → most ≤ capacity
+    → DeskStands w number first most s saves capacity
+desk_begins w number first most s saves capacity rest mine held all few fewer room = record {
   rest = rest;
   mine = mine;
-  holds = no_pins w (session_seen s.view) s.view.held saves held none;
-  few = (let long = ap length none in omega arith);
+  begun = omega arith;
+  holds = no_pins w (session_seen s.view) s.view.held (drop first saves) held
+      (drop_all first saves (omega arith));
+  few = few;
   fewer = fewer;
   room = room;
 }
+
+-- a pin that comes behind them leaves the first ones where they are
+pub first_stay : (first : ℕ) (saves more : List Pinned) (p : Pinned) → first ≤ length saves
+    → more ≡ saves ++ p ∷ [] → take first more ≡ take first saves
+first_stay first saves more p begun is =
+    ap (λ (ps : List Pinned). take first ps) is ∙ take-append-le first saves (p ∷ []) begun
 
 pub pins_more : (saves more : List Pinned) (p : Pinned) (version : Option ℕ) (a : SavedAt)
     → more ≡ saves ++ p ∷ [] → p.version ≡ asked_version version a.at
@@ -158,34 +173,39 @@ one_number ns m n first second = cc
 -- what the lines made of the session, as the lender of session and list sees it
 pub script_ran : (w : WorldSeen) (mine : ℕ) (script lines : List ScriptLine)
     (before after : List LineAnswer) (old : PassSeen) (new last : SessionSeen)
-    (were are saved : List Pinned) → lines ≡ script → were ≡ [] → last ≡ new → saved ≡ are
+    (were are saved : List Pinned) → lines ≡ script → last ≡ new → saved ≡ are
     → old.view.numbers ≡ mine ∷ []
     → RunsScript (of_world w mine) lines before after (session_seen old.view) new
     (pinned_versions were) (pinned_versions are)
     → (number : ℕ) → old.view.numbers ≡ number ∷ []
-    → RunsScript (of_world w number) script before after (session_seen old.view) last []
-    (pinned_versions saved)
-script_ran w mine script lines before after old new last were are saved of none session list one ran number other =
-    subst (λ (n : ℕ). RunsScript (of_world w n) script before after (session_seen old.view) last []
-    (pinned_versions saved)) (one_number old.view.numbers mine number one other)
+    → RunsScript (of_world w number) script before after (session_seen old.view) last
+    (pinned_versions were) (pinned_versions saved)
+script_ran w mine script lines before after old new last were are saved of session list one ran number other =
+    subst (λ (n : ℕ). RunsScript (of_world w n) script before after (session_seen old.view) last
+    (pinned_versions were) (pinned_versions saved))
+    (one_number old.view.numbers mine number one other)
     (subst (λ (ls : List ScriptLine). RunsScript (of_world w mine) ls before after
-    (session_seen old.view) last [] (pinned_versions saved)) of
-    (subst (λ (ps : List Pinned). RunsScript (of_world w mine) lines before after
-    (session_seen old.view) last (pinned_versions ps) (pinned_versions saved)) none
+    (session_seen old.view) last (pinned_versions were) (pinned_versions saved)) of
     (subst (λ (ps : List Pinned). RunsScript (of_world w mine) lines before after
     (session_seen old.view) last (pinned_versions were) (pinned_versions ps)) (sym list)
     (subst (λ (z : SessionSeen). RunsScript (of_world w mine) lines before after
     (session_seen old.view) z (pinned_versions were) (pinned_versions are))
-    (sym session) ran))))
+    (sym session) ran)))
 
-pub script_holds : (w x : TableSeen) (new last : SessionSeen) (are_held held : List Tree)
-    (are saved : List Pinned) → x ≡ w → last ≡ new → held ≡ are_held → saved ≡ are
-    → HoldsSaves x new are_held are → HoldsSaves w last held saved
-script_holds w x new last are_held held are saved world session trees list holds =
-    subst (λ (t : TableSeen). HoldsSaves t last held saved) world
-    (subst (λ (ps : List Pinned). HoldsSaves x last held ps) (sym list)
-    (subst (λ (ts : List Tree). HoldsSaves x last ts are) (sym trees)
-    (subst (λ (z : SessionSeen). HoldsSaves x z are_held are) (sym session) holds)))
+-- the first pins are those that were there, and the roots of the others are held
+pub script_holds : (w x : TableSeen) (new last : SeatView) (m n : ℕ) (were are saved : List Pinned)
+    → x ≡ w → last ≡ new → saved ≡ are → m ≡ length were → n ≡ m → take m are ≡ take m were
+    → SeatHoldsPins x new (drop n are) → SeatHoldsMore w last were saved
+script_holds w x new last m n were are saved world session list all first kept holds =
+    subst (λ (ps : List Pinned). SeatHoldsMore w last were ps) (sym list) (record {
+      more = drop m are;
+      pushed = sym (take-append-drop m are)
+          ∙ ap (λ (ps : List Pinned). ps ++ drop m are)
+          (kept ∙ take_all m were (omega arith));
+      holds = subst (λ (i : ℕ). SeatHoldsPins w last (drop i are)) first
+          (subst (λ (t : TableSeen). SeatHoldsPins t last (drop n are)) world
+          (subst (λ (v : SeatView). SeatHoldsPins x v (drop n are)) (sym session) holds));
+    })
 
 pub script_rests : (w x : TableSeen) (new last : PassSeen) → x ≡ w → last ≡ new → IsAtRest x new
     → IsAtRest w last

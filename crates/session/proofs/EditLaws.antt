@@ -1,9 +1,11 @@
 -- An edit, by an attempt and, too late, by one under the log's turn.
 use Rattle.std.proofs.Common.{◌≡◌, ◌<◌, ◌≤◌, ◌+◌, ℕ, Option, List, [], ◌∷◌, ◌++◌, length, sym, ◌∙◌, ap, subst, arith, length-append}
+use Rattle.std.specs.List.{Contains}
 use Rattle.history_model.specs.declared.acts.Act.{Act}
 use Rattle.node_words.specs.declared.shapes.names.Name.{Name}
 use Rattle.node_words.specs.shapes.Tree.{Tree}
 use Rattle.node_words.specs.shapes.Weights.{number_of_trees}
+use Rattle.node_words.specs.declared.shares.Full.{Full}
 use Rattle.node_words.specs.Held.{SameHeld}
 use Rattle.edit_walk.specs.blocks.Blocks.{GoesBack, MayGoBack}
 use Rattle.table_rule.specs.LogTelling.{number_seen}
@@ -12,17 +14,18 @@ use Rattle.version_log.specs.Roots.{GetsRoot}
 use Rattle.version_log.specs.Seeing.{LooksOn}
 use Rattle.version_log.specs.declared.pinned.Pinned.{Pinned}
 use Rattle.conformance.specs.declared.sessions.calls.ActAnswer.{ActAnswer}
+use Rattle.conformance.specs.declared.sessions.calls.ActAnswer.TheVariants as acts
 use Rattle.session.specs.declared.attempts.Late.{Late}
 use Rattle.conformance.specs.declared.sessions.calls.OnceAnswer.{OnceAnswer}
 use Rattle.conformance.specs.declared.sessions.calls.OnceAnswer.TheVariants as once
 use Rattle.conformance.specs.sessions.Seen.{SessionSeen}
-use Rattle.conformance.specs.sessions.Told.{ActTold, OnceTold}
+use Rattle.conformance.specs.sessions.Told.{ActFull, ActStale, ActTold, OnceTold}
 use Rattle.session.specs.declared.attempts.EditAnswer.{EditAnswer}
 use Rattle.session.specs.declared.attempts.EditAnswer.TheVariants as edits
-use Rattle.session.specs.Attempts.{AnswersAct, IsLate, act_answer, once_answer}
+use Rattle.session.specs.Attempts.{AnswersAct, AnswersOnce, HasPinnedHead, IsLate, act_answer, once_answer}
 use Rattle.session.specs.Seen.{WorldSeen, of_world, session_seen}
 use Rattle.session.proofs.CommitLaws.{back_same, few_gained, may_back, same_number_held}
-use Rattle.session.proofs.WorkLaws.{answers_after, answers_still, looks_work, works_on}
+use Rattle.session.proofs.WorkLaws.{answers_after, answers_still, looks_work, told_after, works_on}
 
 -- the newest version was pinned and will be given back
 module _ (v w : SeatView) (root : Option Name) (gains : GetsRoot v.held root w.held) where
@@ -75,7 +78,38 @@ pub act_told : (t : WorldSeen) (line : ℕ) (act : Act) (a : EditAnswer) (x : Ac
 act_told t line act a x v w same told =
     subst (λ (y : ActAnswer). AnswersAct t line act y v w) (sym same) told
 
+-- what was answered behind a change that was refused, or came too late
+pub full_answers_on : (t : WorldSeen) (line : ℕ) (act : Act) (answer : ActAnswer) (at : ℕ)
+    (full : Full) (u v w : SeatView) → v.numbers ≡ u.numbers
+    → AnswersAct t line act (acts.Full at full) u v → AnswersAct t line act answer v w
+    → AnswersAct t line act answer u w
+full_answers_on t line act answer at full u v w same f g number one =
+    let x : ActFull (of_world t number) act (session_seen u) (session_seen v) at full.level
+    full.bucket = f number one in
+    told_after t number line act (session_seen u) (session_seen v) (session_seen w) x.nothing
+    x.meets.notes answer (g number (same ∙ one))
+
+pub stale_answers : (t : WorldSeen) (line : ℕ) (act : Act) (answer : ActAnswer) (at base : ℕ)
+    (u v w : SeatView) → v.numbers ≡ u.numbers → AnswersOnce t line act (once.Stale at base) u v
+    → AnswersAct t line act answer v w → AnswersAct t line act answer u w
+stale_answers t line act answer at base u v w same f g number one =
+    let x : ActStale (of_world t number) act (session_seen u) (session_seen v) at base =
+    f number one in
+    told_after t number line act (session_seen u) (session_seen v) (session_seen w) x.nothing
+    x.notes answer (g number (same ∙ one))
+
+-- the same of an act that is the same
+pub answers_as : (t : WorldSeen) (line : ℕ) (act made : Act) (answer : ActAnswer) (v w : SeatView)
+    → made ≡ act → AnswersAct t line made answer v w → AnswersAct t line act answer v w
+answers_as t line act made answer v w same told =
+    subst (λ (z : Act). AnswersAct t line z answer v w) same told
+
 -- ---- shares that came
+
+-- as many are held again
+pub still_few : (a b : List Tree) → SameHeld a b → number_of_trees a ≤ 3900
+    → number_of_trees b ≤ 3900
+still_few a b same few = let e = same_number_held a b same in omega arith
 
 pub two_few : (a b c : List Tree) (q r : Option Name) → GetsRoot a q b → GetsRoot b r c
     → number_of_trees a ≤ 3900 → number_of_trees c ≤ 3902
@@ -109,12 +143,12 @@ once_told t line act a x v w same told number one =
     by edits.LogFull h = h
 
 pub stale_told : (t : WorldSeen) (line : ℕ) (act : Act) (base : Pinned) (late : Late)
-    (v w x y z : SeatView) → LooksOn v w → base.moment ≡ number_seen w
+    (v w x y z : SeatView) → LooksOn v w → HasPinnedHead w base
     → IsLate t.table act base late w x → session_seen y ≡ session_seen x
     → session_seen z ≡ session_seen y → (number : ℕ) → v.numbers ≡ number ∷ []
     → OnceTold (of_world t number) line act (session_seen v) (session_seen z)
     (once.Stale late.at base.moment)
-stale_told t line act base late v w x y z looks now is first second number one =
+stale_told t line act base late v w x y z looks head is first second number one =
     subst (λ (s : SessionSeen). OnceTold (of_world t number) line act (session_seen v) s
     (once.Stale late.at base.moment)) (sym (second ∙ first))
     (let works = works_on t.table act v w x (looks_work t.table act v w looks) is.works in
@@ -123,6 +157,7 @@ stale_told t line act base late v w x y z looks now is first second number one =
     ap length long
     in
     let both = length-append v.log.seen.records looks.sees.seen.more in
+    let now = head.now in
     record {
       at_is = is.at_is;
       nothing = works.nothing;

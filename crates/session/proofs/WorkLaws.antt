@@ -169,7 +169,7 @@ module _ (p : Layout) (models : List Content) (act : Act) (a b c : SessionSeen)
 module _ (t : WorldSeen) (number line : ℕ) (act : Act) (a b c : SessionSeen)
     (nothing : AcceptsNothing a b)
     (notes : NotesFor t.table.plan t.table.models act a b) where
-  told_after : (answer : ActAnswer) → ActTold (of_world t number) line act b c answer
+  pub told_after : (answer : ActAnswer) → ActTold (of_world t number) line act b c answer
       → ActTold (of_world t number) line act a c answer
   told_after (acts.Done n) x =
       record {

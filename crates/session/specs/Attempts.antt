@@ -23,7 +23,7 @@ use Rattle.conformance.specs.declared.sessions.calls.ActAnswer.TheVariants as ac
 use Rattle.conformance.specs.declared.sessions.calls.OnceAnswer.{OnceAnswer}
 use Rattle.conformance.specs.declared.sessions.calls.OnceAnswer.TheVariants as once
 use Rattle.conformance.specs.sessions.Calls.{AcceptsNothing, MeetsFullBucket, NotesFor}
-use Rattle.conformance.specs.sessions.Told.{ActTold}
+use Rattle.conformance.specs.sessions.Told.{ActTold, OnceTold}
 use Rattle.session.specs.declared.attempts.EditAnswer.{EditAnswer}
 use Rattle.session.specs.declared.attempts.EditAnswer.TheVariants as edits
 use Rattle.session.specs.declared.attempts.Late.{Late}
@@ -70,6 +70,11 @@ pub record HasPinnedHead (v : SeatView) (base : Pinned) : Type 0 where
 abbrev pub AnswersAct : WorldSeen → ℕ → Act → ActAnswer → SeatView → SeatView → Type 0
 AnswersAct t line act answer v w = (number : ℕ) → v.numbers ≡ number ∷ []
     → ActTold (of_world t number) line act (session_seen v) (session_seen w) answer
+
+-- and one attempt so
+abbrev pub AnswersOnce : WorldSeen → ℕ → Act → OnceAnswer → SeatView → SeatView → Type 0
+AnswersOnce t line act answer v w = (number : ℕ) → v.numbers ≡ number ∷ []
+    → OnceTold (of_world t number) line act (session_seen v) (session_seen w) answer
 
 -- the answer of an edit as one of an act
 abbrev pub act_answer : EditAnswer → ActAnswer

@@ -1,6 +1,11 @@
 -- What a world is closed over, and why it isn't closed.
-use Rattle.std.specs.Prelude.{◌≡◌, ◌≢◌, Bool, List, length, map}
-use Rattle.node_table.specs.Seen.{PassSeen}
+use Rattle.std.specs.Prelude.{◌≡◌, ◌≢◌, ◌<◌, ℕ, Bool, List, length, map, slice_index}
+use Rattle.history_model.specs.Stores.{store_has}
+use Rattle.core_laws.specs.places.Spots.{levels}
+use Rattle.core_laws.specs.contents.Aligned.{world_block}
+use Rattle.core_laws.specs.contents.Versions.{IsKept}
+use Rattle.core_laws.specs.contents.Contents.{HasContents}
+use Rattle.node_table.specs.Seen.{PassSeen, TableSeen}
 use Rattle.node_table.specs.declared.closed.Closed.{Closed}
 use Rattle.vox_read.specs.Contents.{Content}
 use Rattle.history_model.specs.Logs.{Log}
@@ -33,6 +38,11 @@ pub record HadHistory (tint : Bool) (p : Layout) (models : List Content)
     (sessions : List SessionSeen) : Type 0 where
   pub log : Log
   pub closes : ClosesWorld tint p models sessions log
+
+-- the live entries of each level are as many as the blocks that versions have there which are kept
+abbrev pub TellsLive : TableSeen → Closed → Type 0
+TellsLive t e = (level : ℕ) → level < levels t.plan → HasContents (world_block t.plan.side)
+    (λ v. store_has t.models e.history v) (IsKept e.history) level (slice_index e.live level)
 
 -- its sessions are not as many as were made, or they are, and there was no memory. The world and
 -- all sessions come back as they were

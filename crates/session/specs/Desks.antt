@@ -1,36 +1,41 @@
 -- What the desk of a session is between the lines of its script, and what no line changes of it.
 use Rattle.std.specs.Borrow.{MutBor}
-use Rattle.std.specs.Prelude.{◌≡◌, ℕ, ◌≤◌, List, [], ◌∷◌, length}
-use Rattle.std.proofs.Common.{refl, ◌∙◌}
+use Rattle.std.specs.Prelude.{◌≡◌, ℕ, ◌+◌, ◌≤◌, List, [], ◌∷◌, drop, length, take}
+use Rattle.std.specs.declared.vec.Vec.{Vec}
+use Rattle.std.proofs.Common.{refl, subst, ◌∙◌}
 use Rattle.node_table.specs.Seen.{TableSeen, PassSeen, SamePass}
 use Rattle.version_log.specs.declared.pinned.Pinned.{Pinned}
 use Rattle.session.specs.Resting.{IsAtRest}
 use Rattle.session.specs.Saves.{SeatHoldsPins}
 use Rattle.session.specs.Seen.{WorldSeen}
 
--- the session of this number is at rest, holds the roots of what it saved and nothing else, and
--- there is room for as many saves as there may be
-pub record DeskStands (w : TableSeen) (number most : ℕ) (s : PassSeen) (saves : List Pinned)
+-- the session of this number is at rest, and holds the roots of the pins behind the first ones of
+-- the list, which are not its own, and nothing else; and there is room for as many pins as there
+-- may be
+pub record DeskStands (w : TableSeen) (number first most : ℕ) (s : PassSeen) (pins : List Pinned)
     (capacity : ℕ) : Type 0 where
   pub rest : IsAtRest w s
   pub mine : s.view.numbers ≡ number ∷ []
-  pub holds : SeatHoldsPins w s.view saves
-  pub few : length saves ≤ most
-  pub fewer : most ≤ 3900
+  pub begun : first ≤ length pins
+  pub holds : SeatHoldsPins w s.view (drop first pins)
+  pub few : length pins ≤ most
+  pub fewer : most ≤ first + 3900
   pub room : most ≤ capacity
 
 -- it is one of the same world, over the same session, and what it has lent stands where the
--- lender's stands
-pub record StaysAtDesk {V : Type 0} (w x : WorldSeen) (s t : MutBor PassSeen) (p q : MutBor V)
-    : Type 0 where
+-- lender's stands; the pins that stood first do so still
+pub record StaysAtDesk {Z : Type 0} (w x : WorldSeen) (s t : MutBor PassSeen) (m n : ℕ)
+    (p q : MutBor (Vec Pinned Z)) : Type 0 where
   pub world : x ≡ w
   pub session : t.ghost_name ≡ s.ghost_name
   pub saves : q.ghost_name ≡ p.ghost_name
   pub same : SamePass s.now t.now
+  pub first : n ≡ m
+  pub kept : take m q.now.items ≡ take m p.now.items
 
-pub desk_itself : {V : Type 0} (w : WorldSeen) (s : MutBor PassSeen) (p : MutBor V)
-    → StaysAtDesk w w s s p p
-desk_itself w s p = record {
+pub desk_itself : {Z : Type 0} (w : WorldSeen) (s : MutBor PassSeen) (m : ℕ)
+    (p : MutBor (Vec Pinned Z)) → StaysAtDesk w w s s m m p p
+desk_itself w s m p = record {
   world = refl;
   session = refl;
   saves = refl;
@@ -38,11 +43,14 @@ desk_itself w s p = record {
     table = refl;
     session = record { alive = refl; plan = refl; models = refl; numbers = refl };
   };
+  first = refl;
+  kept = refl;
 }
 
-pub desk_on : {V : Type 0} (w x y : WorldSeen) (s t u : MutBor PassSeen) (p q r : MutBor V)
-    → StaysAtDesk w x s t p q → StaysAtDesk x y t u q r → StaysAtDesk w y s u p r
-desk_on w x y s t u p q r f g =
+pub desk_on : {Z : Type 0} (w x y : WorldSeen) (s t u : MutBor PassSeen) (m n k : ℕ)
+    (p q r : MutBor (Vec Pinned Z)) → StaysAtDesk w x s t m n p q → StaysAtDesk x y t u n k q r
+    → StaysAtDesk w y s u m k p r
+desk_on w x y s t u m n k p q r f g =
     let v = f.same.session in
     let z = g.same.session in
     record {
@@ -58,4 +66,6 @@ desk_on w x y s t u p q r f g =
           numbers = z.numbers ∙ v.numbers;
         };
       };
+      first = g.first ∙ f.first;
+      kept = subst (λ (i : ℕ). take i r.now.items ≡ take i q.now.items) f.first g.kept ∙ f.kept;
     }

@@ -1,5 +1,5 @@
 -- A session that holds the roots of what it saved.
-use Rattle.std.specs.Prelude.{◌≡◌, ℕ, ◌≤◌, Some, List, length, map, Result, Ok, Err}
+use Rattle.std.specs.Prelude.{◌≡◌, ℕ, ◌≤◌, Some, List, ◌++◌, length, map, Result, Ok, Err}
 use Rattle.std.specs.List.{AllZip, Contains, sum_by}
 use Rattle.history_model.specs.Stores.{store_has}
 use Rattle.node_words.specs.declared.shapes.names.Name.{Name}
@@ -40,6 +40,12 @@ pub record HoldsSaves (w : TableSeen) (s : SessionSeen) (held : List Tree) (pins
 -- what a session holds is that
 abbrev pub SeatHoldsPins : TableSeen → SeatView → List Pinned → Type 0
 SeatHoldsPins w v pins = HoldsSaves w (session_seen v) v.held pins
+
+-- pins came behind those that were there, and what a session holds is the roots of these
+pub record SeatHoldsMore (w : TableSeen) (v : SeatView) (were are : List Pinned) : Type 0 where
+  pub more : List Pinned
+  pub pushed : are ≡ were ++ more
+  pub holds : SeatHoldsPins w v more
 
 abbrev pub pinned_versions : List Pinned → List ℕ
 pinned_versions pins = map (λ p. p.version) pins

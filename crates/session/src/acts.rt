@@ -8,8 +8,8 @@ ghost use Rattle.node_words.specs.shapes.Weights.{number_of_trees};
 ghost use Rattle.node_words.specs.Held.{SameHeld};
 ghost use Rattle.node_table.specs.Seen.{SamePass};
 ghost use Rattle.conformance.specs.sessions.Told.{ActTold, OnceTold};
-ghost use Rattle.session.specs.Attempts.{AnswersAct, IsMaker, act_answer, once_answer};
-ghost use Rattle.session.specs.Resting.{IsAtRest};
+ghost use Rattle.session.specs.Attempts.{AnswersAct, AnswersOnce, IsMaker, act_answer, once_answer};
+ghost use Rattle.session.specs.Resting.{Calls, IsAtRest, IsBlankOf, IsReady};
 ghost use Rattle.session.specs.Seen.{IsActOf, KnowsItself, of_world, session_seen};
 
 use crate::attempts::{EditAnswer, Late};
@@ -19,8 +19,9 @@ use gate_run::Gate;
 use hands::{ActMaker, AnyAct, BallAct, BoxAct, CopyAct, box_may_repeat, copy_may_repeat};
 use history_model::Act;
 use node_words::{Share, Steps};
+use std::marker::Brand;
 use std::sync::Wait;
-use std::sync::ledger::Ledger;
+use std::sync::ledger::{Blank, Ledger};
 use version_log::Pinned;
 use vw_cell::{Ball, Boxed, Cell};
 
@@ -64,14 +65,13 @@ impl<'m> World<'m> {
     /// made again while no other session commits, so this is never `Stale`.
     ///
     /// It passes the gate between the first attempt and its commit.
-    pub fn act<R: Wait, G: Gate, L: Ledger>(
+    pub fn act<R: Wait, G: Gate>(
         &self,
         rt: &R,
         s: &mut Session,
         line: u32,
         act: &Act,
         gate: &G,
-        steps: &mut Steps<L>,
     ) -> ActAnswer
         requires rest { IsAtRest self.now.table s.old }
         requires fits { IsActOf self.now act.now }
@@ -84,9 +84,28 @@ impl<'m> World<'m> {
             (session_seen s.new.view) result }
         ensures knows { KnowsItself s.new.view }
     {
-        let answer = self.carry_out(rt, s, line, act, gate, steps);
+        let answer = self.act_on::<R, G, Brand>(rt, s, line, act, gate, Blank::new(1));
         s.tell();
         answer
+    }
+
+    fn act_on<R: Wait, G: Gate, L: Ledger>(
+        &self,
+        rt: &R,
+        s: &mut Session,
+        line: u32,
+        act: &Act,
+        gate: &G,
+        blank: Blank,
+    ) -> ActAnswer
+        requires ready { IsReady self.now.table 3900 s.old }
+        requires fits { IsActOf self.now act.now }
+        requires blank { IsBlankOf blank.name blank.parts L.name L.parts }
+        ensures calls { Calls self.now.table s.old s.new }
+        ensures told { AnswersAct self.now line act.now result s.old.view s.new.view }
+    {
+        let mut steps: Steps<L> = Steps::start(blank);
+        self.carry_out(rt, s, line, act, gate, &mut steps)
     }
 
     fn carry_out<R: Wait, G: Gate, L: Ledger>(
@@ -98,12 +117,9 @@ impl<'m> World<'m> {
         gate: &G,
         steps: &mut Steps<L>,
     ) -> ActAnswer
-        requires rest { IsAtRest self.now.table s.old }
+        requires ready { IsReady self.now.table 3900 s.old }
         requires fits { IsActOf self.now act.now }
-        requires room { number_of_trees s.old.view.held ≤ 3900 }
-        ensures rest { IsAtRest self.now.table s.new }
-        ensures same { SamePass s.old s.new }
-        ensures held { SameHeld s.old.view.held s.new.view.held }
+        ensures calls { Calls self.now.table s.old s.new }
         ensures told { AnswersAct self.now line act.now result s.old.view s.new.view }
     {
         match act {
@@ -117,7 +133,8 @@ impl<'m> World<'m> {
         }
     }
 
-    // An edit that is made anew of each root.
+    // An edit that is made anew of each root. Too late, all of its attempt has gone back before it
+    // is made again.
     fn edit_anew<R: Wait, G: Gate, L: Ledger>(
         &self,
         rt: &R,
@@ -127,20 +144,40 @@ impl<'m> World<'m> {
         gate: &G,
         steps: &mut Steps<L>,
     ) -> ActAnswer
-        requires rest { IsAtRest self.now.table s.old }
+        requires ready { IsReady self.now.table 3900 s.old }
         requires edit { is_edit act.now ≡ true }
         requires fits { IsActOf self.now act.now }
-        requires room { number_of_trees s.old.view.held ≤ 3900 }
-        ensures rest { IsAtRest self.now.table s.new }
-        ensures same { SamePass s.old s.new }
-        ensures held { SameHeld s.old.view.held s.new.view.held }
+        ensures calls { Calls self.now.table s.old s.new }
+        ensures told { AnswersAct self.now line act.now result s.old.view s.new.view }
+    {
+        match self.attempt_anew(rt, s, line, act, gate, steps) {
+            OnceAnswer::Done { n } => ActAnswer::Done { n },
+            OnceAnswer::Full { at, full } => ActAnswer::Full { at, full },
+            OnceAnswer::LogFull => ActAnswer::LogFull,
+            OnceAnswer::Stale { at: _, base: _ } => self.surely_anew(rt, s, line, act, steps),
+        }
+    }
+
+    // An edit that is made anew, under the log's turn.
+    fn surely_anew<R: Wait, L: Ledger>(
+        &self,
+        rt: &R,
+        s: &mut Session,
+        line: u32,
+        act: &Act,
+        steps: &mut Steps<L>,
+    ) -> ActAnswer
+        requires ready { IsReady self.now.table 3900 s.old }
+        requires edit { is_edit act.now ≡ true }
+        requires fits { IsActOf self.now act.now }
+        ensures calls { Calls self.now.table s.old s.new }
         ensures told { AnswersAct self.now line act.now result s.old.view s.new.view }
     {
         let mut maker = AnyAct {
             models: &self.drawn,
             edit: *act,
         };
-        act_answer(self.edit(rt, s, line, &mut maker, gate, steps))
+        act_answer(self.edit_surely(rt, s, line, &mut maker, steps))
     }
 
     // A box. Of a large one the second attempt takes over what the first one made.
@@ -155,21 +192,18 @@ impl<'m> World<'m> {
         gate: &G,
         steps: &mut Steps<L>,
     ) -> ActAnswer
-        requires rest { IsAtRest self.now.table s.old }
+        requires ready { IsReady self.now.table 3900 s.old }
         requires act { act.now ≡ box_act set b }
         requires edit { is_edit act.now ≡ true }
         requires fits { IsActOf self.now act.now }
-        requires room { number_of_trees s.old.view.held ≤ 3900 }
-        ensures rest { IsAtRest self.now.table s.new }
-        ensures same { SamePass s.old s.new }
-        ensures held { SameHeld s.old.view.held s.new.view.held }
+        ensures calls { Calls self.now.table s.old s.new }
         ensures told { AnswersAct self.now line act.now result s.old.view s.new.view }
     {
         if !box_may_repeat(b.size, self.plan().side()) {
             return self.edit_anew(rt, s, line, act, gate, steps);
         }
         let mut maker = BoxAct::new(&self.drawn, b, set);
-        act_answer(self.edit(rt, s, line, &mut maker, gate, steps))
+        self.edit(rt, s, line, act, &mut maker, gate, steps)
     }
 
     // A ball, and so of a large one.
@@ -184,21 +218,18 @@ impl<'m> World<'m> {
         gate: &G,
         steps: &mut Steps<L>,
     ) -> ActAnswer
-        requires rest { IsAtRest self.now.table s.old }
+        requires ready { IsReady self.now.table 3900 s.old }
         requires act { act.now ≡ ball_act set ball.now }
         requires edit { is_edit act.now ≡ true }
         requires fits { IsActOf self.now act.now }
-        requires room { number_of_trees s.old.view.held ≤ 3900 }
-        ensures rest { IsAtRest self.now.table s.new }
-        ensures same { SamePass s.old s.new }
-        ensures held { SameHeld s.old.view.held s.new.view.held }
+        ensures calls { Calls self.now.table s.old s.new }
         ensures told { AnswersAct self.now line act.now result s.old.view s.new.view }
     {
         if ball.radius < FEW {
             return self.edit_anew(rt, s, line, act, gate, steps);
         }
         let mut maker = BallAct::new(&self.drawn, ball, set);
-        act_answer(self.edit(rt, s, line, &mut maker, gate, steps))
+        self.edit(rt, s, line, act, &mut maker, gate, steps)
     }
 
     // A copy, and so of a large one.
@@ -213,61 +244,61 @@ impl<'m> World<'m> {
         gate: &G,
         steps: &mut Steps<L>,
     ) -> ActAnswer
-        requires rest { IsAtRest self.now.table s.old }
+        requires ready { IsReady self.now.table 3900 s.old }
         requires act { act.now ≡ Copy from to }
         requires edit { is_edit act.now ≡ true }
         requires fits { IsActOf self.now act.now }
-        requires room { number_of_trees s.old.view.held ≤ 3900 }
-        ensures rest { IsAtRest self.now.table s.new }
-        ensures same { SamePass s.old s.new }
-        ensures held { SameHeld s.old.view.held s.new.view.held }
+        ensures calls { Calls self.now.table s.old s.new }
         ensures told { AnswersAct self.now line act.now result s.old.view s.new.view }
     {
         if !copy_may_repeat(from.size) {
             return self.edit_anew(rt, s, line, act, gate, steps);
         }
         let mut maker = CopyAct::new(&self.drawn, from, to);
-        act_answer(self.edit(rt, s, line, &mut maker, gate, steps))
+        self.edit(rt, s, line, act, &mut maker, gate, steps)
     }
 
-    // The edit, by a first attempt and, too late, by one under the log's turn.
+    // An edit whose second attempt, under the log's turn, takes over what the first one made, which
+    // stays held for that. Where a bucket is full then, all goes back and it is made once more.
     fn edit<M: ActMaker, R: Wait, G: Gate, L: Ledger>(
         &self,
         rt: &R,
         s: &mut Session,
         line: u32,
+        act: &Act,
         maker: &mut M,
         gate: &G,
         steps: &mut Steps<L>,
-    ) -> EditAnswer
-        requires rest { IsAtRest self.now.table s.old }
+    ) -> ActAnswer
+        requires ready { IsReady self.now.table 3900 s.old }
+        requires fits { IsActOf self.now act.now }
+        requires act { M.act maker.old ≡ act.now }
         requires maker { IsMaker self.now.table (M.tint maker.old) (M.models maker.old)
             (M.act maker.old) }
-        requires room { number_of_trees s.old.view.held ≤ 3900 }
         requires recalls { M.recalls maker.old s.old.view.held }
-        ensures rest { IsAtRest self.now.table s.new }
-        ensures same { SamePass s.old s.new }
-        ensures held { SameHeld s.old.view.held s.new.view.held }
-        ensures told { AnswersAct self.now line (M.act maker.old) (act_answer result) s.old.view
-            s.new.view }
+        ensures calls { Calls self.now.table s.old s.new }
+        ensures told { AnswersAct self.now line act.now result s.old.view s.new.view }
     {
         let base = self.pin_head(rt, s, steps);
         match self.attempt(rt, s, &base, line, maker, gate, steps) {
             Ok(answer) => {
                 self.give_root(rt, s, taken(base), steps);
-                answer
+                act_answer(answer)
             }
             Err(Late { at: _, root }) => {
                 let answer = self.edit_surely(rt, s, line, maker, steps);
                 self.give_root(rt, s, root, steps);
                 self.give_root(rt, s, taken(base), steps);
-                answer
+                match answer {
+                    EditAnswer::Full { .. } => self.surely_anew(rt, s, line, act, steps),
+                    _ => act_answer(answer),
+                }
             }
         }
     }
 
-    /// Attempts the edit once.
-    pub fn act_once<R: Wait, G: Gate, L: Ledger>(
+    // One attempt at an edit, of which nothing stays held.
+    fn attempt_anew<R: Wait, G: Gate, L: Ledger>(
         &self,
         rt: &R,
         s: &mut Session,
@@ -275,6 +306,40 @@ impl<'m> World<'m> {
         act: &Act,
         gate: &G,
         steps: &mut Steps<L>,
+    ) -> OnceAnswer
+        requires ready { IsReady self.now.table 3900 s.old }
+        requires edit { is_edit act.now ≡ true }
+        requires fits { IsActOf self.now act.now }
+        ensures calls { Calls self.now.table s.old s.new }
+        ensures told { AnswersOnce self.now line act.now result s.old.view s.new.view }
+    {
+        let mut maker = AnyAct {
+            models: &self.drawn,
+            edit: *act,
+        };
+        let base = self.pin_head(rt, s, steps);
+        let moment = base.moment;
+        match self.attempt(rt, s, &base, line, &mut maker, gate, steps) {
+            Ok(answer) => {
+                self.give_root(rt, s, taken(base), steps);
+                once_answer(answer)
+            }
+            Err(Late { at, root }) => {
+                self.give_root(rt, s, root, steps);
+                self.give_root(rt, s, taken(base), steps);
+                OnceAnswer::Stale { at, base: moment }
+            }
+        }
+    }
+
+    /// Attempts the edit once.
+    pub fn act_once<R: Wait, G: Gate>(
+        &self,
+        rt: &R,
+        s: &mut Session,
+        line: u32,
+        act: &Act,
+        gate: &G,
     ) -> OnceAnswer
         requires rest { IsAtRest self.now.table s.old }
         requires edit { is_edit act.now ≡ true }
@@ -288,24 +353,28 @@ impl<'m> World<'m> {
             (session_seen s.new.view) result }
         ensures knows { KnowsItself s.new.view }
     {
-        let mut maker = AnyAct {
-            models: &self.drawn,
-            edit: *act,
-        };
-        let base = self.pin_head(rt, s, steps);
-        let moment = base.moment;
-        match self.attempt(rt, s, &base, line, &mut maker, gate, steps) {
-            Ok(answer) => {
-                self.give_root(rt, s, taken(base), steps);
-                s.tell();
-                once_answer(answer)
-            }
-            Err(Late { at, root }) => {
-                self.give_root(rt, s, root, steps);
-                self.give_root(rt, s, taken(base), steps);
-                s.tell();
-                OnceAnswer::Stale { at, base: moment }
-            }
-        }
+        let answer = self.act_once_on::<R, G, Brand>(rt, s, line, act, gate, Blank::new(1));
+        s.tell();
+        answer
+    }
+
+    fn act_once_on<R: Wait, G: Gate, L: Ledger>(
+        &self,
+        rt: &R,
+        s: &mut Session,
+        line: u32,
+        act: &Act,
+        gate: &G,
+        blank: Blank,
+    ) -> OnceAnswer
+        requires ready { IsReady self.now.table 3900 s.old }
+        requires edit { is_edit act.now ≡ true }
+        requires fits { IsActOf self.now act.now }
+        requires blank { IsBlankOf blank.name blank.parts L.name L.parts }
+        ensures calls { Calls self.now.table s.old s.new }
+        ensures told { AnswersOnce self.now line act.now result s.old.view s.new.view }
+    {
+        let mut steps: Steps<L> = Steps::start(blank);
+        self.attempt_anew(rt, s, line, act, gate, &mut steps)
     }
 }

@@ -13,7 +13,7 @@ ghost use Rattle.version_log.specs.declared.pinned.Pinned.{Pinned};
 ghost use Rattle.version_log.specs.Pins.{IsPinned};
 ghost use Rattle.conformance.specs.sessions.Told.{AskTold, TellsKept};
 ghost use Rattle.act_rebuilds.specs.questions.TellsRoots.{TellsRoot};
-ghost use Rattle.session.specs.Resting.{IsAtRest};
+ghost use Rattle.session.specs.Resting.{Calls, IsAtRest, IsBlankOf, IsReady};
 ghost use Rattle.session.specs.Roots.{TellsHeld};
 ghost use Rattle.session.specs.Seen.{KnowsItself, of_world, session_seen, side_seen};
 
@@ -22,8 +22,9 @@ use act_rebuilds::{tell, tell_tinted};
 use conformance::AskedAt;
 use history_model::Question;
 use node_words::{Share, Steps};
+use std::marker::Brand;
 use std::sync::Wait;
-use std::sync::ledger::Ledger;
+use std::sync::ledger::{Blank, Ledger};
 use transcript::Answer;
 use version_log::{PinRefused, Pinned};
 
@@ -107,13 +108,12 @@ impl<'m> World<'m> {
 
     /// Answers the question about this version, or about the newest. The version is pinned while
     /// its root is walked.
-    pub fn ask_version<R: Wait, L: Ledger>(
+    pub fn ask_version<R: Wait>(
         &self,
         rt: &R,
         s: &mut Session,
         version: Option<u32>,
         question: Question,
-        steps: &mut Steps<L>,
     ) -> Result<AskedAt, PinRefused>
         requires rest { IsAtRest self.now.table s.old }
         requires fits { QuestionFits (side_seen self.now) question }
@@ -125,7 +125,28 @@ impl<'m> World<'m> {
             (session_seen s.old.view) (session_seen s.new.view) result }
         ensures knows { KnowsItself s.new.view }
     {
-        match version_log::pin(rt, &self.table, s, version, steps) {
+        let answer = self.ask_on::<R, Brand>(rt, s, version, question, Blank::new(1));
+        s.tell();
+        answer
+    }
+
+    fn ask_on<R: Wait, L: Ledger>(
+        &self,
+        rt: &R,
+        s: &mut Session,
+        version: Option<u32>,
+        question: Question,
+        blank: Blank,
+    ) -> Result<AskedAt, PinRefused>
+        requires ready { IsReady self.now.table 3900 s.old }
+        requires fits { QuestionFits (side_seen self.now) question }
+        requires blank { IsBlankOf blank.name blank.parts L.name L.parts }
+        ensures calls { Calls self.now.table s.old s.new }
+        ensures told { (number : ℕ) → AskTold (of_world self.now number) version question
+            (session_seen s.old.view) (session_seen s.new.view) result }
+    {
+        let mut steps: Steps<L> = Steps::start(blank);
+        match version_log::pin(rt, &self.table, s, version, &mut steps) {
             Ok(
                 Pinned {
                     version: _,
@@ -134,14 +155,10 @@ impl<'m> World<'m> {
                 },
             ) => {
                 let answer = self.tell_root(s, root.as_ref(), question);
-                self.give_back(rt, s, root, steps);
-                s.tell();
+                self.give_back(rt, s, root, &mut steps);
                 Ok(AskedAt { at: moment, answer })
             }
-            Err(refused) => {
-                s.tell();
-                Err(refused)
-            }
+            Err(refused) => Err(refused),
         }
     }
 }

@@ -2,7 +2,7 @@
 ghost use Rattle.std.specs.Prelude.{◌≡◌, [], All, IfErr, IfOk, vec_len};
 ghost use Rattle.node_table.specs.Closing.{EndsTable};
 ghost use Rattle.conformance.specs.sessions.Ran.{ClosesWorld};
-ghost use Rattle.session.specs.Closes.{HadHistory, RefusesWorld, sessions_seen};
+ghost use Rattle.session.specs.Closes.{HadHistory, RefusesWorld, TellsLive, sessions_seen};
 ghost use Rattle.session.specs.Resting.{IsAtRest};
 
 use crate::ended::Ended;
@@ -33,6 +33,7 @@ impl<'m> World<'m> {
         requires spare { All (λ s. s.view.held ≡ []) sessions.items }
         ensures made { IfOk result (λ e. vec_len sessions ≡ self.entry.table.made) }
         ensures ends { IfOk result (λ e. EndsTable self.entry.table e) }
+        ensures live { IfOk result (λ e. TellsLive self.entry.table e) }
         ensures closes { IfOk result (λ e. ClosesWorld self.entry.tint self.entry.table.plan
             self.entry.table.models (sessions_seen sessions.items) e.history) }
         ensures refused { IfErr result (λ e. RefusesWorld self.entry sessions.items e) }

@@ -11,31 +11,30 @@ use conformance::{
 };
 use gate_run::Gate;
 use history_model::{Act, Question};
-use node_words::Steps;
 use retain::{ForgetRefused, PinRefused, SameAt, SameRefused};
 use script::{SaveName, ScriptLine};
 use std::sync::Wait;
-use std::sync::ledger::Ledger;
 use transcript::LineAnswer;
 use version_log::Pinned;
 use vw_cell::Boxed;
 
-/// A borrowed session with its world, the pins of what it saved, and the gate that it passes.
+/// A borrowed session with its world, the list that its pins go into, and the gate that it passes.
 #[derive(Drop)]
-pub(crate) struct ScriptDesk<'a, 'm, R, G, L: Ledger> {
+pub(crate) struct ScriptDesk<'a, 'm, R, G> {
     pub(crate) rt: &'a R,
     pub(crate) gate: &'a G,
     pub(crate) world: &'a World<'m>,
     pub(crate) session: &'a mut Session,
     pub(crate) saves: &'a mut Vec<Pinned>,
-    pub(crate) steps: &'a mut Steps<L>,
     /// The session's number.
     pub(crate) number: u16,
-    /// How many saves there may be.
+    /// How many pins were there before its own.
+    pub(crate) first: usize,
+    /// How many pins there may be.
     pub(crate) most: usize,
 }
 
-impl<'a, 'm, R: Wait, G: Gate, L: Ledger> SessionCalls for ScriptDesk<'a, 'm, R, G, L> {
+impl<'a, 'm, R: Wait, G: Gate> SessionCalls for ScriptDesk<'a, 'm, R, G> {
     ghost of = { λ d. of_world d.world.now d.number };
 
     ghost seen = { λ d. session_seen d.session.now.view };
@@ -44,25 +43,24 @@ impl<'a, 'm, R: Wait, G: Gate, L: Ledger> SessionCalls for ScriptDesk<'a, 'm, R,
 
     ghost room = { λ d. d.most - length d.saves.now.items };
 
-    ghost stands = { λ d. DeskStands d.world.now.table d.number d.most d.session.now
-        d.saves.now.items (vec_capacity d.saves.now) };
+    ghost stands = { λ d. DeskStands d.world.now.table d.number d.first d.most
+        d.session.now d.saves.now.items (vec_capacity d.saves.now) };
 
     ghost rests = { λ c d. StaysAtDesk c.world.now d.world.now c.session d.session
-        c.saves d.saves };
+        c.first d.first c.saves d.saves };
 
     fn act(&mut self, line: u32, act: Act) -> ActAnswer {
-        self.world
-            .act(self.rt, self.session, line, &act, self.gate, self.steps)
+        self.world.act(self.rt, self.session, line, &act, self.gate)
     }
 
     fn act_once(&mut self, line: u32, act: Act) -> OnceAnswer {
         self.world
-            .act_once(self.rt, self.session, line, &act, self.gate, self.steps)
+            .act_once(self.rt, self.session, line, &act, self.gate)
     }
 
     fn ask(&mut self, version: Option<u32>, question: Question) -> Result<AskedAt, PinRefused> {
         self.world
-            .ask_version(self.rt, self.session, version, question, self.steps)
+            .ask_version(self.rt, self.session, version, question)
     }
 
     fn save(
@@ -71,10 +69,7 @@ impl<'a, 'm, R: Wait, G: Gate, L: Ledger> SessionCalls for ScriptDesk<'a, 'm, R,
         _name: SaveName,
         part: Boxed,
     ) -> Result<SavedAt, PinRefused> {
-        match self
-            .world
-            .pin_box(self.rt, self.session, version, part, self.steps)
-        {
+        match self.world.pin_box(self.rt, self.session, version, part) {
             Ok(PinnedSave { saved, pin }) => {
                 self.saves.push_reserved(pin);
                 Ok(saved)
@@ -84,8 +79,7 @@ impl<'a, 'm, R: Wait, G: Gate, L: Ledger> SessionCalls for ScriptDesk<'a, 'm, R,
     }
 
     fn forget(&mut self, line: u32, version: u32) -> Result<u32, ForgetRefused> {
-        self.world
-            .forget(self.rt, self.session, line, version, self.steps)
+        self.world.forget(self.rt, self.session, line, version)
     }
 
     fn same(&mut self, v: u32, w: u32) -> Result<SameAt, SameRefused> {
@@ -96,13 +90,13 @@ impl<'a, 'm, R: Wait, G: Gate, L: Ledger> SessionCalls for ScriptDesk<'a, 'm, R,
         self.world.head(self.rt, self.session)
     }
 
-    ghost rests_itself = { λ c. desk_itself c.world.now c.session c.saves };
+    ghost rests_itself = { λ c. desk_itself c.world.now c.session c.first c.saves };
 
     ghost rests_on = { λ c d e. desk_on c.world.now d.world.now e.world.now c.session d.session
-        e.session c.saves d.saves e.saves };
+        e.session c.first d.first e.first c.saves d.saves e.saves };
 }
 
-impl<'a, 'm, R: Wait, G: Gate, L: Ledger> SessionDesk for ScriptDesk<'a, 'm, R, G, L> {
+impl<'a, 'm, R: Wait, G: Gate> SessionDesk for ScriptDesk<'a, 'm, R, G> {
     ghost of = { λ d. of_world d.world.now d.number };
 
     ghost seen = { λ d. session_seen d.session.now.view };
@@ -111,11 +105,11 @@ impl<'a, 'm, R: Wait, G: Gate, L: Ledger> SessionDesk for ScriptDesk<'a, 'm, R, 
 
     ghost room = { λ d. d.most - length d.saves.now.items };
 
-    ghost stands = { λ d. DeskStands d.world.now.table d.number d.most d.session.now
-        d.saves.now.items (vec_capacity d.saves.now) };
+    ghost stands = { λ d. DeskStands d.world.now.table d.number d.first d.most
+        d.session.now d.saves.now.items (vec_capacity d.saves.now) };
 
     ghost rests = { λ c d. StaysAtDesk c.world.now d.world.now c.session d.session
-        c.saves d.saves };
+        c.first d.first c.saves d.saves };
 
     fn answer(&mut self, l: ScriptLine) -> LineAnswer {
         let gate = self.gate;
@@ -127,8 +121,8 @@ impl<'a, 'm, R: Wait, G: Gate, L: Ledger> SessionDesk for ScriptDesk<'a, 'm, R, 
         answer
     }
 
-    ghost rests_itself = { λ c. desk_itself c.world.now c.session c.saves };
+    ghost rests_itself = { λ c. desk_itself c.world.now c.session c.first c.saves };
 
     ghost rests_on = { λ c d e. desk_on c.world.now d.world.now e.world.now c.session d.session
-        e.session c.saves d.saves e.saves };
+        e.session c.first d.first e.first c.saves d.saves e.saves };
 }

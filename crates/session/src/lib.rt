@@ -26,7 +26,9 @@ mod undoing;
 mod world;
 
 pub use closes::CloseRefused;
+pub use conformance::{ActAnswer, OnceAnswer};
 pub use ended::Ended;
+pub use hands::Hand;
 pub use saves::PinnedSave;
 pub use scripts::run_script;
 pub use version_log::Pinned;

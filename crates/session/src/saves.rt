@@ -67,13 +67,12 @@ impl<'m> World<'m> {
     }
 
     /// Pins this version, or the newest, and counts the set cells of the box.
-    pub fn pin_box<R: Wait, L: Ledger>(
+    pub fn pin_box<R: Wait>(
         &self,
         rt: &R,
         s: &mut Session,
         version: Option<u32>,
         part: Boxed,
-        steps: &mut Steps<L>,
     ) -> Result<PinnedSave, PinRefused>
         requires rest { IsAtRest self.now.table s.old }
         requires fits { FitsAt part.at part.size (side_seen self.now) }
@@ -89,7 +88,7 @@ impl<'m> World<'m> {
         ensures held { IfErr result (λ e. SameHeld s.old.view.held s.new.view.held) }
         ensures knows { KnowsItself s.new.view }
     {
-        match self.pin(rt, s, version, steps) {
+        match self.pin(rt, s, version) {
             Ok(pin) => {
                 s.tell();
                 let cells = self.count_pinned(s, &pin, part);

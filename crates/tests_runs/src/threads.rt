@@ -9,3 +9,5 @@ mod meeting_tests;
 mod order_tests;
 #[cfg(test)]
 mod run_tests;
+#[cfg(test)]
+mod stale_tests;

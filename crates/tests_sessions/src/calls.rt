@@ -1,5 +1,5 @@
 //! Calls of a world by a session, and what the session is told.
-ghost use Rattle.std.specs.Prelude.{◌≡◌, ◌<◌};
+ghost use Rattle.std.specs.Prelude.{◌≡◌};
 ghost use Rattle.vw_cell.specs.Places.{FitsAt};
 ghost use Rattle.version_log.specs.Pins.{IsPinned};
 ghost use Rattle.session.specs.Resting.{IsAtRest};
@@ -10,11 +10,8 @@ use crate::worlds::{cell_within, within};
 use conformance::{ActAnswer, AskedAt, OnceAnswer};
 use gate_run::Gate;
 use history_model::{Act, Question};
-use node_words::Steps;
 use session::{Session, World};
-use std::marker::Brand;
 use std::sync::Wait;
-use std::sync::ledger::{Blank, Ledger};
 use transcript::Answer;
 use version_log::{ForgetRefused, PinRefused, Pinned, SameAt, SameRefused};
 use vw_cell::{Boxed, Cell};
@@ -60,40 +57,38 @@ fn cells_of(answer: Answer) -> u64 {
     }
 }
 
-fn carries_out<R: Wait, G: Gate, L: Ledger>(
+fn carries_out<R: Wait, G: Gate>(
     rt: &R,
     world: &World<'_>,
     s: &mut Session,
     line: u32,
     act: &Act,
     gate: &G,
-    steps: &mut Steps<L>,
 ) -> Told
     requires { IsFree world.now s.old }
     ensures { IsFree world.now s.new }
 {
     if world.fits(act) {
-        Told::Act(world.act(rt, s, line, act, gate, steps))
+        Told::Act(world.act(rt, s, line, act, gate))
     } else {
         Told::Outside
     }
 }
 
-fn fills_once<R: Wait, G: Gate, L: Ledger>(
+fn fills_once<R: Wait, G: Gate>(
     rt: &R,
     world: &World<'_>,
     s: &mut Session,
     line: u32,
     part: Boxed,
     gate: &G,
-    steps: &mut Steps<L>,
 ) -> Told
     requires { IsFree world.now s.old }
     ensures { IsFree world.now s.new }
 {
     let act = Act::Fill(part);
     if world.fits(&act) {
-        Told::Once(world.act_once(rt, s, line, &act, gate, steps))
+        Told::Once(world.act_once(rt, s, line, &act, gate))
     } else {
         Told::Outside
     }
@@ -129,7 +124,7 @@ fn counts_pinned<G: Gate>(
     (least, greatest)
 }
 
-fn counts<R: Wait, G: Gate, L: Ledger>(
+fn counts<R: Wait, G: Gate>(
     rt: &R,
     world: &World<'_>,
     s: &mut Session,
@@ -138,17 +133,16 @@ fn counts<R: Wait, G: Gate, L: Ledger>(
     part: Boxed,
     times: u32,
     gate: &G,
-    steps: &mut Steps<L>,
 ) -> Told
     requires free { IsFree world.now s.old }
     requires fits { FitsAt part.at part.size (side_seen world.now) }
     ensures free { IsFree world.now s.new }
 {
-    match world.pin(rt, s, version, steps) {
+    match world.pin(rt, s, version) {
         Ok(pinned) => {
             let (least, greatest) = counts_pinned(world, s, &pinned, line, part, times, gate);
             let moment = pinned.moment;
-            world.unpin(rt, s, pinned, steps);
+            world.unpin(rt, s, pinned);
             Told::Count(moment, least, greatest)
         }
         Err(refused) => Told::NotPinned(refused),
@@ -163,13 +157,12 @@ fn colour_told(asked: AskedAt) -> Told {
     }
 }
 
-fn asks_colour<R: Wait, L: Ledger>(
+fn asks_colour<R: Wait>(
     rt: &R,
     world: &World<'_>,
     s: &mut Session,
     version: Option<u32>,
     cell: Cell,
-    steps: &mut Steps<L>,
 ) -> Told
     requires { IsFree world.now s.old }
     ensures { IsFree world.now s.new }
@@ -177,7 +170,7 @@ fn asks_colour<R: Wait, L: Ledger>(
     match cell_within(world, cell) {
         Some(cell) => {
             let question = Question::Colour(cell);
-            match world.ask_version(rt, s, version, question, steps) {
+            match world.ask_version(rt, s, version, question) {
                 Ok(asked) => colour_told(asked),
                 Err(refused) => Told::NotPinned(refused),
             }
@@ -186,48 +179,11 @@ fn asks_colour<R: Wait, L: Ledger>(
     }
 }
 
-fn forgets<R: Wait, L: Ledger>(
-    rt: &R,
-    world: &World<'_>,
-    s: &mut Session,
-    line: u32,
-    version: u32,
-    steps: &mut Steps<L>,
-) -> Told
+fn forgets<R: Wait>(rt: &R, world: &World<'_>, s: &mut Session, line: u32, version: u32) -> Told
     requires { IsFree world.now s.old }
     ensures { IsFree world.now s.new }
 {
-    Told::Forget(world.forget(rt, s, line, version, steps))
-}
-
-fn tell_over<R: Wait, G: Gate, L: Ledger>(
-    rt: &R,
-    world: &World<'_>,
-    s: &mut Session,
-    line: u32,
-    call: Call,
-    gate: &G,
-    blank: Blank,
-) -> Told
-    requires name { blank.name ≡ L.name }
-    requires parts { blank.parts ≡ L.parts }
-    requires some { 0 < L.parts }
-    requires free { IsFree world.now s.old }
-    ensures free { IsFree world.now s.new }
-{
-    let mut steps: Steps<L> = Steps::start(blank);
-    match call {
-        Call::Act(act) => carries_out(rt, world, s, line, &act, gate, &mut steps),
-        Call::FillOnce(part) => fills_once(rt, world, s, line, part, gate, &mut steps),
-        Call::Count(version, part, times) => match within(world, part) {
-            Some(part) => counts(rt, world, s, line, version, part, times, gate, &mut steps),
-            None => Told::Outside,
-        },
-        Call::Colour(version, cell) => asks_colour(rt, world, s, version, cell, &mut steps),
-        Call::Forget(version) => forgets(rt, world, s, line, version, &mut steps),
-        Call::Same(v, w) => Told::Same(world.same(rt, s, v, w)),
-        Call::Head => Told::Head(world.head(rt, s)),
-    }
+    Told::Forget(world.forget(rt, s, line, version))
 }
 
 /// What the session is told by this call, as that of this line.
@@ -242,7 +198,18 @@ pub fn tell<R: Wait, G: Gate>(
     requires { IsFree world.now s.old }
     ensures { IsFree world.now s.new }
 {
-    tell_over::<R, G, Brand>(rt, world, s, line, call, gate, Blank::new(1))
+    match call {
+        Call::Act(act) => carries_out(rt, world, s, line, &act, gate),
+        Call::FillOnce(part) => fills_once(rt, world, s, line, part, gate),
+        Call::Count(version, part, times) => match within(world, part) {
+            Some(part) => counts(rt, world, s, line, version, part, times, gate),
+            None => Told::Outside,
+        },
+        Call::Colour(version, cell) => asks_colour(rt, world, s, version, cell),
+        Call::Forget(version) => forgets(rt, world, s, line, version),
+        Call::Same(v, w) => Told::Same(world.same(rt, s, v, w)),
+        Call::Head => Told::Head(world.head(rt, s)),
+    }
 }
 
 /// A call, and what the session is to be told.

@@ -1,5 +1,5 @@
 //! A version that is pinned while another session forgets it.
-ghost use Rattle.std.specs.Prelude.{◌≡◌, ◌<◌, ◌≤◌, All};
+ghost use Rattle.std.specs.Prelude.{◌≡◌, ◌≤◌, All};
 ghost use Rattle.vw_cell.specs.Places.{FitsAt};
 ghost use Rattle.version_log.specs.Pins.{IsPinned};
 ghost use Rattle.session.specs.Resting.{IsAtRest};
@@ -13,12 +13,9 @@ use conformance::ActAnswer;
 use gate_run::NoGate;
 use history_model::Act::{Erase, Fill};
 use history_model::{Mark, Question};
-use node_words::Steps;
 use session::{Session, World};
 use std::alloc::Global;
-use std::marker::Brand;
 use std::sync::Wait;
-use std::sync::ledger::{Blank, Ledger};
 use std::test::Fail;
 use transcript::Answer;
 use version_log::{PinRefused, Pinned};
@@ -94,7 +91,7 @@ fn is_kept(alloc: Global, world: &World<'_>, s: &mut Session, p: &Pinned, part: 
 
 // Whether version 1, which one session pins, is kept while the other makes its calls, and how many
 // of these are right.
-fn outlives<R: Wait, L: Ledger>(
+fn outlives<R: Wait>(
     rt: &R,
     alloc: Global,
     world: &World<'_>,
@@ -102,23 +99,18 @@ fn outlives<R: Wait, L: Ledger>(
     b: &mut Session,
     part: Boxed,
     rows: &[Row],
-    blank: Blank,
 ) -> (bool, u32)
-    requires name { blank.name ≡ L.name }
-    requires parts { blank.parts ≡ L.parts }
-    requires some { 0 < L.parts }
     requires first { IsFree world.now a.old }
     requires second { IsFree world.now b.old }
     requires fits { FitsAt part.at part.size (side_seen world.now) }
     ensures first { IsFree world.now a.new }
     ensures second { IsFree world.now b.new }
 {
-    let mut steps: Steps<L> = Steps::start(blank);
-    match world.pin(rt, b, Some(1), &mut steps) {
+    match world.pin(rt, b, Some(1)) {
         Ok(pinned) => {
             let right = answered(rt, world, a, rows, &NoGate);
             let kept = is_kept(alloc, world, b, &pinned, part);
-            world.unpin(rt, b, pinned, &mut steps);
+            world.unpin(rt, b, pinned);
             (kept, right)
         }
         Err(_) => (false, 0),
@@ -165,8 +157,7 @@ fn forgotten_beside<R: Wait>(
         return (false, 0);
     };
     let edited = answered(rt, world, a, EDITS, &NoGate);
-    let blank = Blank::new(1);
-    let (kept, right) = outlives::<R, Brand>(rt, alloc, world, a, b, part, FORGETS, blank);
+    let (kept, right) = outlives(rt, alloc, world, a, b, part, FORGETS);
     let refused = answered(rt, world, b, MEETS_A_MARK, &NoGate);
     (kept, edited.saturating_add(right).saturating_add(refused))
 }

@@ -1,5 +1,5 @@
 //! Worlds whose cells have tints: their acts, the colours of versions, and what is listed of them.
-ghost use Rattle.std.specs.Prelude.{◌≡◌, ◌<◌, All};
+ghost use Rattle.std.specs.Prelude.{◌≡◌, All};
 ghost use Rattle.vw_cell.specs.Places.{FitsAt};
 ghost use Rattle.session.specs.Seen.{side_seen};
 ghost use Rattle.tests_sessions.specs.Free.{IsFree};
@@ -15,12 +15,9 @@ use conformance::ActAnswer;
 use gate_run::NoGate;
 use history_model::Act::{Fill, Stamp, Tint, Undo};
 use history_model::TintAct;
-use node_words::Steps;
 use session::{Session, World};
 use std::alloc::Global;
-use std::marker::Brand;
 use std::sync::Wait;
-use std::sync::ledger::{Blank, Ledger};
 use std::test::Fail;
 use version_log::SameAt;
 use vox_read::{Voxel, read_models};
@@ -130,7 +127,7 @@ fn a_stamp_gives_the_tints_of_its_model(rt: HostRuntime) -> Result<(), Fail> {
 }
 
 // Whether a version has just these cells in its part.
-fn lists_version<R: Wait, L: Ledger>(
+fn lists_version<R: Wait>(
     rt: &R,
     alloc: Global,
     world: &World<'_>,
@@ -138,20 +135,15 @@ fn lists_version<R: Wait, L: Ledger>(
     version: u32,
     part: Boxed,
     want: &[Voxel],
-    blank: Blank,
 ) -> bool
-    requires name { blank.name ≡ L.name }
-    requires parts { blank.parts ≡ L.parts }
-    requires some { 0 < L.parts }
     requires free { IsFree world.now s.old }
     requires fits { FitsAt part.at part.size (side_seen world.now) }
     ensures free { IsFree world.now s.new }
 {
-    let mut steps: Steps<L> = Steps::start(blank);
-    match world.pin(rt, s, Some(version), &mut steps) {
+    match world.pin(rt, s, Some(version)) {
         Ok(pinned) => {
             let listed = lists(alloc, world, s, &pinned, part, want);
-            world.unpin(rt, s, pinned, &mut steps);
+            world.unpin(rt, s, pinned);
             listed
         }
         Err(_) => false,
@@ -247,8 +239,7 @@ fn listed_behind<R: Wait>(rt: &R, alloc: Global, world: &World<'_>, s: &mut Sess
         return (0, false);
     };
     let right = answered(rt, world, s, EDITS, &NoGate);
-    let blank = Blank::new(1);
-    let listed = lists_version::<R, Brand>(rt, alloc, world, s, 4, part, &LISTED, blank);
+    let listed = lists_version(rt, alloc, world, s, 4, part, &LISTED);
     (right, listed)
 }
 

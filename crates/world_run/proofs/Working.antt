@@ -27,7 +27,7 @@ use Rattle.conformance.specs.sessions.Ran.{IsAnswered, SessionRan, SessionsRanKe
 use Rattle.conformance.specs.sessions.Saves.{saves_asked_in, versions_of}
 use Rattle.conformance.specs.sessions.Seen.{SessionSeen, none_noted, session_keeping}
 use Rattle.session.specs.Resting.{IsAtRest}
-use Rattle.session.specs.Saves.{SeatHoldsPins, pinned_versions}
+use Rattle.session.specs.Saves.{SeatHoldsMore, SeatHoldsPins, pinned_versions}
 use Rattle.session.specs.Seen.{AreLinesOfWorld, WorldSeen, of_world, session_seen}
 use Rattle.world_run.specs.declared.open_runs.SavedSession.{SavedSession}
 use Rattle.world_run.specs.declared.rooms.ScriptRoom.{ScriptRoom}
@@ -169,8 +169,18 @@ one_versions t script number old new is worked =
     let r = worked.ran number is.number_is in
     let same : new.room.answers.items ≡ r.answers =
     r.pushed ∙ ap (λ (bs : List LineAnswer). bs ++ r.answers) is.may.room.no_answer in
-    r.saved ∙ ap (λ (ls : List ScriptLine). versions_of (saved_in ls r.answers)) is.script_is
+    r.saved
+    ∙ ap (λ (ps : List Pinned). pinned_versions ps ++ versions_of
+    (saved_in old.script.now r.answers)) is.may.room.no_pin
+    ∙ ap (λ (ls : List ScriptLine). versions_of (saved_in ls r.answers)) is.script_is
     ∙ ap (λ (bs : List LineAnswer). versions_of (saved_in script bs)) (sym same)
+
+-- all that it holds came in this run
+all_hold : (t : TableSeen) (s : PassSeen) (were are : List Pinned) → were ≡ []
+    → SeatHoldsMore t s.view were are → SeatHoldsPins t s.view are
+all_hold t s were are none holds =
+    subst (λ (ps : List Pinned). SeatHoldsPins t s.view ps)
+    (sym (holds.pushed ∙ ap (λ (ps : List Pinned). ps ++ holds.more) none)) holds.holds
 
 one_done : (t : WorldSeen) (script : List ScriptLine) (number : ℕ) (old new : SessionWork)
     → IsWorkOf t script number old → Worked old new → IsDoneOf t script number new
@@ -181,7 +191,9 @@ one_done t script number old new is worked =
       rest = subst (λ (w : WorldSeen). IsAtRest w.table new.session) is.world worked.rest;
       ran = one_ran t script number old new is worked;
       holds = subst (λ (w : WorldSeen). SeatHoldsPins w.table new.session.view new.room.pins.items)
-          is.world worked.holds;
+          is.world
+          (all_hold old.world.now.table new.session old.room.pins.items new.room.pins.items
+          is.may.room.no_pin worked.holds);
       versions = one_versions t script number old new is worked;
       no_save = ap (λ v. v.items) worked.saves ∙ room.no_save;
       saves = subst (λ (n : ℕ). saves_asked_in script ≤ n)

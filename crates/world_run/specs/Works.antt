@@ -8,7 +8,7 @@ use Rattle.conformance.specs.sessions.Runs.{RunsScript}
 use Rattle.conformance.specs.sessions.Saves.{saves_asked_in, versions_of}
 use Rattle.conformance.specs.sessions.Seen.{none_noted}
 use Rattle.session.specs.Resting.{IsAtRest}
-use Rattle.session.specs.Saves.{SeatHoldsPins, pinned_versions}
+use Rattle.session.specs.Saves.{SeatHoldsMore, SeatHoldsPins, pinned_versions}
 use Rattle.session.specs.Scripts.{IsFresh}
 use Rattle.session.specs.Seen.{AreLinesOfWorld, WorldSeen, of_world, session_seen}
 use Rattle.world_run.specs.declared.rooms.ScriptRoom.{ScriptRoom}
@@ -42,9 +42,10 @@ pub record Worked (old new : SessionWork) : Type 0 where
   pub rest : IsAtRest old.world.now.table new.session
   pub ran : (number : ℕ) → old.session.view.numbers ≡ number ∷ [] → RunsScript
       (of_world old.world.now number) old.script.now old.room.answers.items
-      new.room.answers.items (session_seen old.session.view) (session_seen new.session.view) []
-      (pinned_versions new.room.pins.items)
-  pub holds : SeatHoldsPins old.world.now.table new.session.view new.room.pins.items
+      new.room.answers.items (session_seen old.session.view) (session_seen new.session.view)
+      (pinned_versions old.room.pins.items) (pinned_versions new.room.pins.items)
+  pub holds : SeatHoldsMore old.world.now.table new.session.view old.room.pins.items
+      new.room.pins.items
 
 -- the work is that of the session of this number in this world, and of this script
 pub record IsWorkOf (t : WorldSeen) (script : List ScriptLine) (number : ℕ) (w : SessionWork)

@@ -4,7 +4,7 @@ use Rattle.session.proofs.desks.ScriptDeskSessionCalls.same.Goals as goal
 
 pub returns-clause-stands : goal.returns-clause-stands
 returns-clause-stands g c =
-    desk_goes_on c.args.self.now.world.now.table c.args.self.now.number c.args.self.now.most c.args.self.now.session.now c.args.self.now.saves.now.items _ c.requires.stands c.same.new.s c.same.ensures.rest c.same.ensures.same
+    desk_goes_on c.args.self.now.world.now.table c.args.self.now.number c.args.self.now.first c.args.self.now.most c.args.self.now.session.now c.args.self.now.saves.now.items _ c.requires.stands c.same.new.s c.same.ensures.rest c.same.ensures.same
     (same_if c.args.self.now.session.now.view.held c.same.new.s.view.held c.same.ensures.held)
     (same_sees (of_world c.args.self.now.world.now c.args.self.now.number)
     (session_seen c.args.self.now.session.now.view)

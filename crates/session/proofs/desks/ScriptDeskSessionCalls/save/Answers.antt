@@ -4,17 +4,17 @@ use Rattle.session.specs.Saves.{saved_told}
 use Rattle.session.specs.Seen.{of_world, session_seen}
 use Rattle.session.specs.declared.saves.PinnedSave.{PinnedSave}
 use Rattle.retain.specs.declared.refusals.PinRefused.{PinRefused}
-use Rattle.std.proofs.Common.{subst}
-use Rattle.session.proofs.DeskLaws.{desk_goes_on, desk_saves, few_shares, save_sees}
+use Rattle.std.proofs.Common.{rules, subst}
+use Rattle.session.proofs.DeskLaws.{desk_goes_on, desk_saves, few_shares, first_stay, save_sees}
 use Rattle.session.proofs.desks.ScriptDeskSessionCalls.save.Goals as goal
 
 pub pin_box-requires-clause-room : goal.pin_box-requires-clause-room
 pin_box-requires-clause-room g c =
-    few_shares c.args.self.now.world.now.table c.args.self.now.number c.args.self.now.most c.args.self.now.session.now c.args.self.now.saves.now.items _ c.requires.stands
+    few_shares c.args.self.now.world.now.table c.args.self.now.number c.args.self.now.first c.args.self.now.most c.args.self.now.session.now c.args.self.now.saves.now.items _ c.requires.stands
 
 pub returns-in-Ok-clause-stands : goal.returns-in-Ok-clause-stands
 returns-in-Ok-clause-stands g c =
-    desk_saves c.args.self.now.world.now.table c.args.self.now.number c.args.self.now.most c.args.self.now.session.now c.args.self.now.saves.now.items _ c.requires.stands c.pin_box.new.s c.in-Ok.field-0.pin c.push_reserved.new.self.items c.requires.room c.pin_box.ensures.rest c.pin_box.ensures.same c.in-Ok.ensures.pinned
+    desk_saves c.args.self.now.world.now.table c.args.self.now.number c.args.self.now.first c.args.self.now.most c.args.self.now.session.now c.args.self.now.saves.now.items _ c.requires.stands c.pin_box.new.s c.in-Ok.field-0.pin c.push_reserved.new.self.items c.requires.room c.pin_box.ensures.rest c.pin_box.ensures.same c.in-Ok.ensures.pinned
     (save_sees (of_world c.args.self.now.world.now c.args.self.now.number)
     (session_seen c.args.self.now.session.now.view)
     (session_seen c.pin_box.new.s.view) c.args.version c.args.part
@@ -29,9 +29,22 @@ returns-in-Ok-clause-told g c =
     (saved_told r))
     c.in-Ok.is (c.pin_box.ensures.told c.args.self.now.number)
 
+pub returns-in-Ok-clause-rests : goal.returns-in-Ok-clause-rests
+returns-in-Ok-clause-rests g c =
+    record {
+      world = search rules;
+      session = search rules;
+      saves = search rules;
+      same = search rules;
+      first = search rules;
+      kept = first_stay c.args.self.now.first c.args.self.now.saves.now.items
+          c.push_reserved.new.self.items c.in-Ok.field-0.pin c.requires.stands.begun
+          c.push_reserved.ensures.items;
+    }
+
 pub returns-in-Err-clause-stands : goal.returns-in-Err-clause-stands
 returns-in-Err-clause-stands g c =
-    desk_goes_on c.args.self.now.world.now.table c.args.self.now.number c.args.self.now.most c.args.self.now.session.now c.args.self.now.saves.now.items _ c.requires.stands c.pin_box.new.s c.pin_box.ensures.rest c.pin_box.ensures.same c.in-Err.ensures.held
+    desk_goes_on c.args.self.now.world.now.table c.args.self.now.number c.args.self.now.first c.args.self.now.most c.args.self.now.session.now c.args.self.now.saves.now.items _ c.requires.stands c.pin_box.new.s c.pin_box.ensures.rest c.pin_box.ensures.same c.in-Err.ensures.held
     (save_sees (of_world c.args.self.now.world.now c.args.self.now.number)
     (session_seen c.args.self.now.session.now.view)
     (session_seen c.pin_box.new.s.view) c.args.version c.args.part

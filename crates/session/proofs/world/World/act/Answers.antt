@@ -3,5 +3,5 @@ use Rattle.session.proofs.world.World.act.Goals as goal
 
 pub returns-clause-knows : goal.returns-clause-knows
 returns-clause-knows g c =
-    knows_back c.args.self.now.table c.carry_out-answer.new.s c.carry_out-answer.ensures.rest
-    c.tell.ensures
+    knows_back c.args.self.now.table c.act_on-answer.new.s
+    c.act_on-answer.ensures.calls.rest c.tell.ensures

@@ -1,43 +1,7 @@
-use Rattle.std.proofs.Common.{rules}
-use Rattle.session.proofs.AskLaws.{asked_told, few_pinned, knows_asked, may_walk_as, refused}
-use Rattle.session.proofs.SeenLaws.{rest_knows}
+use Rattle.session.proofs.ForgetLaws.{knows_back}
 use Rattle.session.proofs.world.World.ask_version.Goals as goal
 
-pub tell_root-answer-requires-clause-root : goal.tell_root-answer-requires-clause-root
-tell_root-answer-requires-clause-root g c =
-    may_walk_as c.args.self.now.table c.args.s.now c.pin.new.pass c.args.version c.in-Ok.field-0 _
-    (search rules) c.requires.rest c.in-Ok.ensures.looks c.in-Ok.ensures.pinned
-
-pub give_back-requires-clause-room : goal.give_back-requires-clause-room
-give_back-requires-clause-room g c =
-    few_pinned c.args.s.now.view c.pin.new.pass.view c.tell_root-answer.new.s.view
-    c.in-Ok.field-0.root c.in-Ok.ensures.pinned.gains c.tell_root-answer.ensures.seen
-    c.requires.room
-
-pub returns-in-Ok-clause-told : goal.returns-in-Ok-clause-told
-returns-in-Ok-clause-told g c = λ number.
-    asked_told c.args.self.now number c.args.version c.args.question c.args.s.now c.pin.new.pass
-    c.in-Ok.field-0 c.tell_root-answer.result c.requires.rest c.in-Ok.ensures.looks
-    c.in-Ok.ensures.pinned _ (search rules) c.tell_root-answer.ensures.tells
-    c.tell_root-answer.ensures.resting
-    c.tell_root-answer.new.s c.give_back.new.s c.tell_root-answer.ensures.stays
-    c.tell_root-answer.ensures.seen c.give_back.ensures.stays c.give_back.ensures.only
-
-pub returns-in-Ok-clause-knows : goal.returns-in-Ok-clause-knows
-returns-in-Ok-clause-knows g c =
-    knows_asked c.args.self.now 0 c.args.version c.args.question c.args.s.now c.pin.new.pass
-    c.in-Ok.field-0 c.tell_root-answer.result c.requires.rest c.in-Ok.ensures.looks
-    c.in-Ok.ensures.pinned _ (search rules) c.tell_root-answer.ensures.tells
-    c.tell_root-answer.ensures.resting
-    c.tell_root-answer.new.s c.give_back.new.s c.tell_root-answer.ensures.stays
-    c.give_back.ensures.stays c.tell.ensures
-
-pub returns-in-Err-clause-told : goal.returns-in-Err-clause-told
-returns-in-Err-clause-told g c = λ number.
-    refused c.args.version c.args.s.now.view c.pin.new.pass.view c.in-Err.refused
-    c.in-Err.ensures.looks c.in-Err.ensures.refused
-
-pub returns-in-Err-clause-knows : goal.returns-in-Err-clause-knows
-returns-in-Err-clause-knows g c =
-    rest_knows c.args.self.now.table c.args.s.now c.pin.new.pass c.requires.rest
-    c.in-Err.ensures.looks c.tell-in-Err.ensures
+pub returns-clause-knows : goal.returns-clause-knows
+returns-clause-knows g c =
+    knows_back c.args.self.now.table c.ask_on-answer.new.s c.ask_on-answer.ensures.calls.rest
+    c.tell.ensures

@@ -1,12 +1,13 @@
 use Rattle.std.proofs.Common.{◌∙◌, ap, rules, sym, subst}
 use Rattle.node_table.specs.Closing.{EndsTable, HadEnough}
+use Rattle.node_table.specs.Seen.{TableSeen}
 use Rattle.node_table.specs.declared.closed.Closed.{Closed}
 use Rattle.conformance.specs.sessions.Ran.{ClosesWorld}
 use Rattle.conformance.specs.sessions.Seen.{MayTint}
-use Rattle.session.specs.Closes.{coloured_as, sessions_seen}
+use Rattle.session.specs.Closes.{TellsLive, coloured_as, sessions_seen}
 use Rattle.session.specs.Seen.{WorldSeen}
 use Rattle.session.proofs.ActLaws.{models_of}
-use Rattle.session.proofs.CloseLaws.{closes_world, ends_as, legal_left}
+use Rattle.session.proofs.CloseLaws.{closes_world, ends_as, legal_left, lives_as}
 use Rattle.session.proofs.world.World.close.Goals as goal
 
 pub returns-in-Ok-clause-ends : goal.returns-in-Ok-clause-ends
@@ -14,6 +15,13 @@ returns-in-Ok-clause-ends c =
     let ends : EndsTable c.args.self.table c.in-Ok.closed = search rules in
     subst (λ (e : Closed). EndsTable c.args.self.table e) (sym c.of.ensures)
     (ends_as c.self.inside.tint c.args.self.table c.in-Ok.closed ends)
+
+pub returns-in-Ok-clause-live : goal.returns-in-Ok-clause-live
+returns-in-Ok-clause-live c =
+    subst (λ (e : Closed). TellsLive c.args.self.table e) (sym c.of.ensures)
+    (lives_as c.self.inside.tint c.args.self.table c.in-Ok.closed
+    (subst (λ (t : TableSeen). TellsLive t c.in-Ok.closed)
+    (ap (λ (w : WorldSeen). w.table) c.self.view_is) c.in-Ok.ensures.live))
 
 pub returns-in-Ok-clause-closes : goal.returns-in-Ok-clause-closes
 returns-in-Ok-clause-closes c =

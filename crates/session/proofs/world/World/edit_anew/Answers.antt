@@ -1,15 +1,9 @@
-use Rattle.std.proofs.Common.{refl}
-use Rattle.session.proofs.ActLaws.{maker_of, models_of}
-use Rattle.session.proofs.EditLaws.{act_told}
+use Rattle.session.proofs.EditLaws.{stale_answers}
 use Rattle.session.proofs.world.World.edit_anew.Goals as goal
 
-pub returns-clause-told : goal.returns-clause-told
-returns-clause-told g c =
-    act_told c.args.self.now c.args.line c.args.act.now _ _ c.args.s.now.view c.edit.new.s.view
-    c.act_answer.ensures c.edit.ensures.told
-
-pub edit-requires-clause-maker : goal.edit-requires-clause-maker
-edit-requires-clause-maker g c =
-    maker_of c.args.self.now _ _ _ c.args.act.now _
-    (models_of c.args.self.now _ _ _ c.self.view_is c.self.invariant) c.requires.fits
-    c.requires.edit refl refl
+pub returns-in-Stale-clause-told : goal.returns-in-Stale-clause-told
+returns-in-Stale-clause-told g c =
+    stale_answers c.args.self.now c.args.line c.args.act.now _ _ _ c.args.s.now.view
+    c.attempt_anew.new.s.view c.surely_anew.new.s.view
+    c.attempt_anew.ensures.calls.same.session.numbers c.in-Stale.ensures.told
+    c.surely_anew.ensures.told
