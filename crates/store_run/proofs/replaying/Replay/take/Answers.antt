@@ -2,7 +2,7 @@ use Rattle.std.proofs.Common.{rules, sym, ap, ◌∙◌}
 use Rattle.history_model.specs.Logs.{Log}
 use Rattle.store_run.specs.Replaying.{ReplayState, TakesEdit}
 use Rattle.store_run.proofs.Taking.{way_replays}
-use Rattle.store_run.proofs.Filling.{edit_parts, way_made, state_as}
+use Rattle.store_run.proofs.Filling.{edit_fills, edit_parts, way_made, state_as}
 use Rattle.store_run.proofs.replaying.Replay.take.Goals as goal
 
 pub returns-then-not-is_edit-clause-replays : goal.returns-then-not-is_edit-clause-replays
@@ -28,3 +28,11 @@ returns-clause-made g c =
     (state_as c.args.self.now c.self.inside.versions c.reserve.new.self c.self.view_is
     c.reserve.ensures.same c.reserve.ensures.log c.reserve.ensures.store)
     c.reserve.ensures.are (sym c.is_edit.ensures ∙ c.if-not-is_edit.false) c.requires.made takes
+
+pub returns-in-Err-clause-refused : goal.returns-in-Err-clause-refused
+returns-in-Err-clause-refused g c =
+    edit_fills c.args.self.now c.reserve.new.self c.take_edit.new.self c.args.next c.in-Err.full
+    (state_as c.args.self.now c.self.inside.versions c.reserve.new.self c.self.view_is
+    c.reserve.ensures.same c.reserve.ensures.log c.reserve.ensures.store)
+    c.reserve.ensures.are (sym c.is_edit.ensures ∙ c.if-not-is_edit.false) c.requires.made
+    c.in-Err.ensures.fills
