@@ -13,6 +13,7 @@ use Rattle.history_model.specs.Laws.{position_of_next}
 use Rattle.history_model.specs.Logs.{Log, FitsWorld, IsVersionHeld, HasTarget, MayFollow}
 use Rattle.history_model.specs.PositionLaws.{NamesBelow, names_below}
 use Rattle.history_model.specs.Positions.{Position, first_of, next_position, position_after}
+use Rattle.store_run.specs.Replaying.{AreLegalRecords}
 use Rattle.dag_answers.specs.Legality.{IsFirstIllegal, CanCome, TellsEnds, IsOpen}
 use Rattle.dag_answers.proofs.LegalLaws.{all_front, ComesNext, illegal_at, legal_push}
 

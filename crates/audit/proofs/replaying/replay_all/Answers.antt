@@ -1,4 +1,4 @@
-use Rattle.std.proofs.Common.{◌≡◌, ◌+◌, ◌++◌, ◌∷◌, [], Bool, true, false, List, length, get_or, ◌^◌, Ok, sym, ap, subst, ◌∙◌, refl, arith, length-append, rules}
+use Rattle.std.proofs.Common.{◌≡◌, ◌+◌, ◌++◌, ◌∷◌, [], Bool, true, false, List, length, get_or, ◌^◌, Ok, sym, ap, subst, ◌∙◌, refl, arith, length-append, rules, ◌<◌}
 use Rattle.std.proofs.lemmas.List.{take_more}
 use Rattle.history_model.specs.declared.histories.Record.{Record}
 use Rattle.audit.specs.declared.replaying.Ways.{Ways}

@@ -1,4 +1,6 @@
-use Rattle.std.proofs.Common.{rules, IsTrue, ◌^◌}
+use Rattle.std.proofs.Common.{rules, subst, IsTrue, ◌^◌}
+use Rattle.store_run.specs.declared.replaying.ReplayRefused.{ReplayRefused}
+use Rattle.store_run.specs.Replaying.{RefusesRecord}
 use Rattle.audit.proofs.Following.{step_full, step_taken}
 use Rattle.audit.proofs.replaying.step.Goals as goal
 
@@ -14,4 +16,5 @@ returns-in-Err-Full-clause-steps g c = λ marks tells. (
     let free : IsTrue c.is_free.result = search rules in
     step_full c.args.replay.now marks c.args.table.now c.take.new.self.records c.args.next
     c.in-Err-Full.full tells c.requires.fits (c.is_free.ensures.0 free)
-    c.in-Err-Full.ensures.refused)
+    (subst (λ (e : ReplayRefused). RefusesRecord c.args.replay.now c.args.next e)
+    c.in-Err-Full.field-0-is c.in-Err-Full.ensures.refused))

@@ -2,6 +2,7 @@ use Rattle.std.proofs.Common.{◌≡◌, ◌^◌, ◌≤◌, List, take}
 use Rattle.history_model.specs.declared.histories.Mark.{Mark}
 use Rattle.history_model.specs.Positions.{position_after}
 use Rattle.undo.specs.Trails.{trail_position}
+use Rattle.store_run.specs.Replaying.{AreLegalRecords}
 use Rattle.dag_answers.specs.Legality.{TellsEnds}
 use Rattle.dag_answers.proofs.legality.find_illegal.Given as goal
 
