@@ -21,7 +21,7 @@ fn bucket_of(bits: u64) -> u64 {
 fn put_leaf(alloc: Global, leaf: u16, bits: u64) -> Result<Vec<u8>, AllocError> {
     let x = ((leaf % 8) as u8).wrapping_mul(4);
     let y = ((leaf / 8 % 8) as u8).wrapping_mul(4);
-    let z = ((leaf / 64) as u8).wrapping_mul(4);
+    let z = ((leaf / 64 % 8) as u8).wrapping_mul(4);
     let mut voxels = Vec::new(alloc);
     let mut rest = bits;
     for bit in 0..64u8 {
