@@ -1,5 +1,5 @@
-use std::test::Fail;
 use bucket_core::{Bucket, Lowered};
+use std::test::Fail;
 
 // What is done to a bucket of two slots, and what comes of it.
 #[derive(Clone, Copy)]
