@@ -28,7 +28,7 @@ returns-in-Err-write_saves-clause-writes g c =
     (named_texts names (map transcript_of c.args.run.transcripts.items)) old.files mid.files)
     c.requires.named c.in_default.ensures.writes.0) c.in_default.ensures.writes.1
     (subst (λ (s : RunState). HadHistory s.tint s.plan s.models s.sessions)
-    c.in-Err-write_saves.ensures.same c.give_up.ensures)
+    c.in-Err-write_saves.ensures.same c.give_up-in-Err-write_saves.ensures)
     c.in-Err-write_saves.refused (g.S.Shelf.state c.write_saves.new.shelf)
     c.in-Err-write_saves.ensures.writes
 
