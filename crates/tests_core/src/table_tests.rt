@@ -59,6 +59,16 @@ const MARK: Mark = Mark {
     line: 7,
 };
 
+/// A leaf of session 0 that comes, keeps the next out, and goes, in such a world. Before anything is
+/// appended there is nothing to undo.
+const ONE_LEAF: [(Event, Reply); 5] = [
+    (Event::Leaf(0, 1), Reply::Held(A)),
+    (Event::Leaf(0, 2), Reply::Full(FULL)),
+    (Event::Lower(0, A), Reply::Freed([None; 8])),
+    (Event::Lower(0, A), Reply::Unlawful),
+    (Event::Append(0, 1, Act::Undo, 0, None), Reply::Unlawful),
+];
+
 /// Events of a world of one leaf, and a bucket of one slot, with their replies: the leaf and its
 /// shares, then versions, then what is forgotten.
 const SMALL: [(Event, Reply); 36] = [
@@ -236,6 +246,18 @@ fn first_wrong_of(
     let plan = plan_of(side, 1, cap)?;
     let mut core = Core::begin(alloc, &plan, models, 2)?;
     Ok(first_wrong(&mut core, alloc, rows)?)
+}
+
+fn wrong_of_one_leaf(alloc: Global, models: &Models) -> Result<Option<usize>, Fail> {
+    let rows = ONE_LEAF;
+    first_wrong_of(alloc, 4, 1, models, &rows)
+}
+
+#[test]
+fn a_leaf_of_the_smallest_core_comes_and_goes(rt: HostRuntime) -> Result<(), Fail> {
+    let models = no_models(rt.alloc());
+    assert_eq!(rt; wrong_of_one_leaf(rt.alloc(), &models)?, None);
+    Ok(())
 }
 
 fn wrong_of_small(alloc: Global, models: &Models) -> Result<Option<usize>, Fail> {

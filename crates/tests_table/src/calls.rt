@@ -71,32 +71,6 @@ pub fn comes_and_goes<R: Wait, L: Ledger>(
     }
 }
 
-/// Whether bucket 0 of level 0 is full without the leaf.
-pub fn is_refused<R: Wait, L: Ledger>(
-    rt: &R,
-    table: &NodeTable,
-    pass: &mut Pass,
-    bits: u64,
-    steps: &mut Steps<L>,
-) -> bool
-    requires of { BelongsTo table.now pass.old }
-    requires idle { pass.old.view.turn ≡ None }
-    requires bits { bits ≢ 0 }
-    requires room { number_of_trees pass.old.view.held ≤ 3999 }
-    ensures of { BelongsTo table.now pass.new }
-    ensures idle { pass.new.view.turn ≡ None }
-    ensures log { pass.new.view.log ≡ pass.old.view.log }
-    ensures held { SameHeld pass.old.view.held pass.new.view.held }
-{
-    match intern::leaf(rt, table, pass, bits, steps) {
-        Ok(share) => {
-            let _freed = give(rt, table, pass, share, steps);
-            false
-        }
-        Err(full) => full.level == 0 && full.bucket == 0,
-    }
-}
-
 /// Ends a pass that holds nothing.
 pub fn end(pass: Pass)
     requires held { SameHeld [] pass.view.held }

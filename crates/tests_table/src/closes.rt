@@ -87,6 +87,23 @@ fn closes_later(alloc: Global, table: NodeTable, mut passes: Vec<Pass>, kept: Pa
     }
 }
 
+/// Whether closing the table with these two passes tells that nothing was left.
+pub fn closes_with(alloc: Global, table: NodeTable, first: Pass, second: Pass) -> bool
+    requires first { IsSpare table first }
+    requires second { IsSpare table second }
+{
+    let mut passes = Vec::new(alloc);
+    match passes.push(first) {
+        Ok(()) => closes_later(alloc, table, passes, second),
+        Err(AllocFailed { value }) => {
+            value.end();
+            second.end();
+            passes.destroy_empty();
+            false
+        }
+    }
+}
+
 // Whether closing is refused while one pass is kept back, and then isn't.
 fn is_refused_once(alloc: Global, table: NodeTable, mut passes: Vec<Pass>) -> bool
     requires { All (IsSpare table) passes.items }

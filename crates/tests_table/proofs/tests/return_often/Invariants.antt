@@ -1,0 +1,9 @@
+use Rattle.std.proofs.Common.{◌≡◌, None}
+use Rattle.node_words.specs.Held.{SameHeld}
+use Rattle.node_table.specs.Seen.{BelongsTo}
+use Rattle.tests_table.proofs.tests.return_often.Given as goal
+
+abbrev pub invariant-loop : goal.invariant-loop
+invariant-loop g l =
+    BelongsTo l.table l.pass × (l.pass.view.turn ≡ None)
+    × SameHeld l.fn.pass.view.held l.pass.view.held × (l.pass.view.log ≡ l.fn.pass.view.log)
