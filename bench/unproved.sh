@@ -7,7 +7,7 @@
 # be timed, beside a program built in the same way. The sources' hints on inlining, which `rt try` drops, are put in again.
 set -eu
 here=$(cd "$(dirname "$0")" && pwd)
-root=$(dirname "$here")
+root=${ROOT:-$(dirname "$here")}
 out=$(realpath -m "$1")
 shift
 kit=$(dirname "$(rt doc)")
