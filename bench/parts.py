@@ -180,7 +180,7 @@ def tinted(_: dict[str, Readings], lines: list[str]) -> list[str]:
         # A fill's corner and tint, its turns, those of one over it, and its time; a stamp's place, kind, turns and time; a save's.
         place, tint, counted = {"fill": (numbers[:3], numbers[3:4], numbers[4:]), "stamp": (numbers[:3], numbers[3:4], numbers[4:]),
                                 "save": ([], numbers[:1], numbers[1:])}[kind]
-        if kind != "save" and tint == [0] or kind == "save" and not plain.get(kind):
+        if tint == [0]:
             plain[kind] = counted
         times = ", ".join(f"{a / max(b, 1):.2f}" for a, b in zip(counted, plain.get(kind) or counted))
         told.append(f"{kind} {' '.join(map(str, place))} {tint[0]}: {', '.join(map(str, counted))}; in times the plain one's {times}")
