@@ -65,10 +65,10 @@ def counts(name: str, pair: Pair) -> list[str]:
         whole = counted(side.words, pair.folder)
         opening = counted(side.opening, pair.folder) if side.opening else [0] * len(whole)
         apart.append([of - off for of, off in zip(whole, opening)])
-        told = ", ".join(f"{(of - off) / 1e6:.2f} {what}" for of, off, what in zip(whole, opening, timed.COUNTED))
-        lines.append(f"  {side.name}: {told}" + (f"; opening {', '.join(f'{off / 1e6:.2f}' for off in opening)}" if side.opening else ""))
-    ratios = ", ".join(f"{a / max(b, 1):.2f}" for a, b in zip(*apart))
-    return lines + [f"  {pair.ours.name}/{pair.theirs.name}: {ratios}, in millions of lines above"]
+        told = ", ".join(f"{(of - off) / 1e6:.2f}" for of, off in zip(whole, opening))
+        lines.append(f"  {side.name}, in millions: {told}" + (f"; opening {', '.join(f'{off / 1e6:.2f}' for off in opening)}" if side.opening else ""))
+    ratios = ", ".join(f"{a / max(b, 1):.2f} {what}" for a, b, what in zip(*apart, timed.COUNTED))
+    return lines + [f"  {pair.ours.name}/{pair.theirs.name}: {ratios}"]
 
 
 def room(name: str) -> Path:
@@ -184,9 +184,9 @@ def script_of(kind: str) -> Whole:
         shutil.copy(ours, theirs)
         model, plain = ROOT / "models/one.vox", tool("script")
         check = lambda a, b: ["the transcripts differ"] * (Path(f"{ours}.out").read_bytes() != Path(f"{theirs}.out").read_bytes())
-        return Pair(folder, Side("program", [product(), "run", "--side", "256", model, ours]), Side("script.c", [plain, "256", model, theirs]), check)
+        return Pair(folder, Side("program", [product(), "run", "--side", "256", *ROOMY, model, ours]), Side("script.c", [plain, "256", model, theirs]), check)
 
-    return Whole(pair, 2)
+    return Whole(pair)
 
 
 def audit(is_counted: bool) -> Pair:
@@ -221,20 +221,22 @@ def look(is_counted: bool) -> Pair:
 def keep_of(scripts: list[tuple[str, int, int, int]], aim: float) -> Whole:
     """Runs that hold their last 100 versions, and the same runs that hold all; both audited."""
     def pair(is_counted: bool) -> Pair:
-        folder = room("keep")
-        for name, changes, low, width in scripts:
-            write_changes(folder / name, changes, low, width)
-        names = [name for name, *_ in scripts]
-        model = ROOT / "models/one.vox"
-        kept, all_of = ([product(), "run", "--side", "256", *ROOMY, *keep, "--journal", journal, model, *names]
-                        for keep, journal in ((["--keep", "100"], "kept"), ([], "all")))
+        folder, model = room("keep"), ROOT / "models/one.vox"
+        sides, audits = [], []
+        for of, keep in (("last", ["--keep", "100"]), ("all", [])):
+            room(f"keep/{of}")
+            for name, changes, low, width in scripts:
+                write_changes(folder / of / name, changes, low, width)
+            files = [f"{of}/{name}" for name, *_ in scripts]
+            words: Words = [product(), "run", "--side", "256", *ROOMY, *keep, "--journal", f"{of}/journal", model, *files]
+            sides.append(Side("last 100" if keep else "all", words))
+            audits.append([product(), "audit", "--buckets", "4096", *keep, model, f"{of}/journal", *files])
 
-        def check(a: Best, b: Best) -> list[str]:
-            audits = ((["--keep", "100"], "kept"), ([], "all"))
-            said = [command([product(), "audit", "--buckets", "4096", *keep, model, journal, *names], cwd=folder) for keep, journal in audits]
+        def check(_: Best, b: Best) -> list[str]:
+            said = [command(words, cwd=folder) for words in audits]
             return [f"without --keep: {b.printed.strip()}"] + ["an audit isn't yes"] * (said != ["yes\n", "yes\n"])
 
-        return Pair(folder, Side("last 100", kept), Side("all", all_of), check)
+        return Pair(folder, *sides, check)
 
     return Whole(pair, aim)
 
