@@ -25,15 +25,18 @@ class Sample:
     seconds: float
     peak: int  # bytes
     printed: str
+    processor: float = 0.0  # seconds, of all threads
 
 
 @dataclass(frozen=True)
 class Best:
-    """Of the runs of one command: the least and the median time, the greatest peak, and what the last one printed."""
+    """Of the runs of one command: the least and the median time, the least processor time, the greatest peak, and what the
+    last one printed."""
     least: float
     median: float
     peak: int
     printed: str
+    processor: float
 
 
 def product() -> Path:
@@ -82,8 +85,8 @@ def made_once(file: Path, maker: str, *words: str) -> Path:
 def timed(words: Words, folder: Path) -> Sample:
     result = WORK / "result"
     printed = command([tool("peak"), result, *words], cwd=folder)
-    seconds, peak = result.read_text().split()
-    return Sample(float(seconds), int(peak), printed)
+    seconds, peak, processor = result.read_text().split()
+    return Sample(float(seconds), int(peak), printed, float(processor))
 
 
 def counted(words: Words, folder: Path) -> list[int]:
@@ -105,7 +108,8 @@ def in_turn(rounds: int, runs: dict[str, Callable[[], Sample]]) -> dict[str, Bes
 
 def best(samples: list[Sample]) -> Best:
     times = [sample.seconds for sample in samples]
-    return Best(min(times), statistics.median(times), max(sample.peak for sample in samples), samples[-1].printed)
+    return Best(min(times), statistics.median(times), max(sample.peak for sample in samples), samples[-1].printed,
+                min(sample.processor for sample in samples))
 
 
 def load() -> str:

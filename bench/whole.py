@@ -47,13 +47,13 @@ def times(name: str, pair: Pair, rounds: int, aim: float | None) -> list[str]:
     lines = [f"{name}: {ours.printed.strip().splitlines()[-1]}" if ours.printed.strip() else name]
     for side in sides:
         its, opened = found[side.name], found.get(f"{side.name} opening")
-        opening = f", opening {opened.least:.3f}, {opened.median:.3f} s" if opened else ""
-        lines.append(f"  {side.name}: least {its.least:.3f}, median {its.median:.3f} s{opening}, peak {its.peak / 1e6:.1f} MB")
-    ratios = [f"by the least {ours.least / theirs.least:.2f}, by the median {ours.median / theirs.median:.2f}"]
+        opening = f", opening {opened.least:.3f}, {opened.median:.3f}, {opened.processor:.3f} s" if opened else ""
+        lines.append(f"  {side.name}: least {its.least:.3f}, median {its.median:.3f}, processor {its.processor:.3f} s{opening}, peak {its.peak / 1e6:.1f} MB")
+    ratio = lambda a, b: ", ".join(f"{(getattr(ours, of) - a(of)) / max(getattr(theirs, of) - b(of), 1e-6):.2f}" for of in ("least", "median", "processor"))
+    ratios = [ratio(lambda of: 0, lambda of: 0)]
     if pair.ours.opening and pair.theirs.opening:
         a, b = (found[f"{side.name} opening"] for side in sides)
-        apart = [(getattr(ours, of) - getattr(a, of)) / max(getattr(theirs, of) - getattr(b, of), 1e-6) for of in ("least", "median")]
-        ratios.append(f"opening apart {apart[0]:.2f}, {apart[1]:.2f}")
+        ratios.append(f"opening apart {ratio(lambda of: getattr(a, of), lambda of: getattr(b, of))}")
     lines.append(f"  {pair.ours.name}/{pair.theirs.name}: {'; '.join(ratios)}{timed.aim_of(aim)}, of {rounds}")
     return lines + [f"  {what}" for what in pair.check(ours, theirs)]
 

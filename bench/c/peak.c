@@ -1,4 +1,5 @@
-// Runs a command and writes to the file RESULT one line: its wall time in seconds, and its peak resident memory in bytes.
+// Runs a command and writes to the file RESULT one line: its wall time in seconds, its peak resident memory in bytes, and the
+// processor seconds that it and the system took for it.
 //
 //     peak RESULT COMMAND ARGUMENTS..
 //
@@ -53,7 +54,8 @@ int main(int argc, char **argv)
         return 125;
     }
     // Linux gives ru_maxrss in KiB.
-    fprintf(result, "%.6f %lld\n", seconds, 1024LL * used.ru_maxrss);
+    double processor = (double)(used.ru_utime.tv_sec + used.ru_stime.tv_sec) + 1e-6 * (double)(used.ru_utime.tv_usec + used.ru_stime.tv_usec);
+    fprintf(result, "%.6f %lld %.6f\n", seconds, 1024LL * used.ru_maxrss, processor);
     fclose(result);
     return WIFSIGNALED(status) ? 128 + WTERMSIG(status) : WEXITSTATUS(status);
 }
