@@ -53,6 +53,7 @@ class Part:
     peaks: dict[str, list[str]] = field(default_factory=dict)
     rustc: Callable[[Path], list[Path]] = lambda folder: []  # further files of the peer
     source: str | None = None  # the folder of bench/, where it has another name than the row
+    shows: Callable[[str], bool] = lambda kind: True  # the kinds of lines whose times are told
 
     def run(self, name: str, rounds: int, is_counted: bool) -> list[str]:
         source = self.source or name
@@ -86,7 +87,7 @@ class Part:
             ratios = [of["ours"][kind][0] / max(of["theirs"][other][0], 1e-9) for of in (least, median)]
             differs = "; THE TWO DID OTHER THINGS" if sums != least["theirs"][other][1] else ""
             name = " ".join(word for word in (case.name, kind) if word)
-            if time or differs:
+            if time and self.shows(kind) or differs:
                 lines.append(f"{name}: {time * self.scale:.1f} {self.unit}, peer {least['theirs'][other][0] * self.scale:.1f}: "
                              f"{ratios[0]:.2f}, by the median {ratios[1]:.2f}{aim_of(self.aim)}{differs}")
         return lines + (self.more(least, []) if self.more else [])
@@ -278,7 +279,9 @@ ROWS: dict[str, Part | Library] = {
     "texts": Part("plain_text vw_cell vox_read history_model transcript", "kind time sum", "ms", 1e-3, aim=2, cases=texts),
     "scenes": Part("byteorder vox_read vox_scene vw_cell", "time sum", "ms", 1e-3, peer="scene", aim=1.5, cases=scenes),
     "save": Part("vw_cell vox_chunk vox_read vox_write", "time sum", "ms", 1e-3, cases=saves),
-    "edits": Part(STORES, "kind . time sum", "ms", 1e-6, aim=1.2, cases=worlds_of("edits"), rustc=octree, source="worlds"),
-    "questions": Part(STORES, "kind . time sum", "ms", 1e-6, aim=1.5, cases=worlds_of("questions"), rustc=octree, source="worlds"),
+    "edits": Part(STORES, "kind . time sum", "ms", 1e-6, is_proved=False, aim=1.2, cases=worlds_of("edits"), rustc=octree,
+                  source="worlds", shows=lambda kind: kind == "edit"),
+    "questions": Part(STORES, "kind . time sum", "ms", 1e-6, is_proved=False, aim=1.5, cases=worlds_of("questions"), rustc=octree,
+                      source="worlds", shows=lambda kind: kind == "edit"),
     "library": Library(),
 }
