@@ -86,7 +86,7 @@ class Part:
                 continue
             ratios = [of["ours"][kind][0] / max(of["theirs"][other][0], 1e-9) for of in (least, median)]
             differs = "; THE TWO DID OTHER THINGS" if sums != least["theirs"][other][1] else ""
-            name = " ".join(word for word in (case.name, kind) if word)
+            name = " ".join(word for word in (case.name, kind) if word) or "time"
             if time and self.shows(kind) or differs:
                 lines.append(f"{name}: {time * self.scale:.1f} {self.unit}, peer {least['theirs'][other][0] * self.scale:.1f}: "
                              f"{ratios[0]:.2f}, by the median {ratios[1]:.2f}{aim_of(self.aim)}{differs}")
