@@ -75,8 +75,7 @@ class Part:
         if not self.fields:
             return samples["ours"][-1].printed.splitlines()
         read = {side: [readings(self.fields.split(), sample.printed) for sample in its] for side, its in samples.items()}
-        least, median = ({side: {kind: (pick(sorted(one[kind][0] for one in its)), its[-1][kind][1]) for kind in its[-1]} for side, its in read.items()}
-                         for pick in (lambda times: times[0], lambda times: times[len(times) // 2]))
+        least, median = picked(read, min), picked(read, lambda times: sorted(times)[len(times) // 2])
         if "theirs" not in read:
             return self.more(least, samples["ours"][-1].printed.splitlines())
         lines = []
@@ -103,7 +102,8 @@ class Part:
         for part in ("src", "specs", "proofs"):
             shutil.rmtree(own / part, ignore_errors=True)
         for file in (HERE / name).rglob("*.in"):
-            place = own / (Path("src") / file.name if file.parent == HERE / name else file.relative_to(HERE / name)).with_suffix("")
+            inner = Path("src") / file.name if file.parent == HERE / name else file.relative_to(HERE / name)
+            place = (own / inner).with_suffix("")
             place.parent.mkdir(parents=True, exist_ok=True)
             shutil.copy(file, place)
         (folder / "crates.txt").write_text("\n".join([*crates.values(), f"bench_{name}: {self.above}"]) + "\n")
@@ -127,7 +127,8 @@ class Part:
         for file in self.rustc(folder):
             shutil.copyfile(file, source.parent / file.name)
         shutil.copyfile(HERE / name / "plain.rs", source)
-        command(["rustc", "--edition", "2021", "-O", "-C", "target-cpu=x86-64-v2", "-A", "warnings", "-o", folder / "plain", source])
+        flags = ["--edition", "2021", "-O", "-C", "target-cpu=x86-64-v2", "-A", "warnings"]
+        command(["rustc", *flags, "-o", folder / "plain", source])
         return folder / "plain"
 
 
@@ -135,6 +136,11 @@ def copied(source: Path, place: Path) -> None:
     shutil.rmtree(place, ignore_errors=True)
     if source.is_dir():
         shutil.copytree(source, place)
+
+
+def picked(read: dict[str, list[Readings]], pick: Callable[[list[float]], float]) -> dict[str, Readings]:
+    """By side and kind one of the times, and the sums."""
+    return {side: {kind: (pick([one[kind][0] for one in its]), its[-1][kind][1]) for kind in its[-1]} for side, its in read.items()}
 
 
 def readings(fields: list[str], printed: str) -> Readings:
@@ -156,9 +162,12 @@ def begun(least: dict[str, Readings], _: list[str]) -> list[str]:
 
 
 def threads(least: dict[str, Readings], lines: list[str]) -> list[str]:
-    return begun(least, lines) + [
-        f"{side}: four threads do {4 * its['apart_1'][0] / its['apart_4'][0]:.2f} times the calls of one over keys apart (aim 3), "
-        f"{4 * its['one_bucket_1'][0] / its['one_bucket_4'][0]:.2f} times over one bucket (aim 0.5)" for side, its in least.items()]
+    told = begun(least, lines)
+    for side, its in least.items():
+        apart, together = (4 * its[f"{of}_1"][0] / its[f"{of}_4"][0] for of in ("apart", "one_bucket"))
+        told.append(f"{side}: four threads do {apart:.2f} times the calls of one over keys apart (aim 3), "
+                    f"{together:.2f} times over one bucket (aim 0.5)")
+    return told
 
 
 def log_calls(least: dict[str, Readings], lines: list[str]) -> list[str]:
@@ -167,10 +176,12 @@ def log_calls(least: dict[str, Readings], lines: list[str]) -> list[str]:
     ours = least["ours"]
     each = {kind: time / wanted.get(kind, 200_000) for kind, (time, _) in ours.items()}
     aims = {"pin_empty": " (aim 60 over them)", "append": " (aim 150 in all)"}
-    told = [f"{kind}: {ns:.1f} ns, {ns - each['exchange']:.1f} over two exchanges{aims.get(kind, '')}" for kind, ns in each.items() if kind != "see"]
+    told = [f"{kind}: {ns:.1f} ns, {ns - each['exchange']:.1f} over two exchanges{aims.get(kind, '')}"
+            for kind, ns in each.items() if kind != "see"]
     told.append(f"65,532 records seen for the first time: {ours['see'][0] / 1e6:.2f} ms (aim 3)")
     told.append(f"four threads append {ours['threads_1'][0] / ours['threads_4'][0]:.2f} times the records of one (aim 0.5)")
-    return told + [f"{kind}: not all calls did what they should" for kind, (_, sums) in ours.items() if sums[-1] != str(wanted.get(kind, 200_000))]
+    return told + [f"{kind}: not all calls did what they should"
+                   for kind, (_, sums) in ours.items() if sums[-1] != str(wanted.get(kind, 200_000))]
 
 
 def tinted(_: dict[str, Readings], lines: list[str]) -> list[str]:
@@ -178,13 +189,15 @@ def tinted(_: dict[str, Readings], lines: list[str]) -> list[str]:
     told, plain = [], {}
     for kind, *words in map(str.split, lines):
         numbers = [int(word) for word in words]
-        # A fill's corner and tint, its turns, those of one over it, and its time; a stamp's place, kind, turns and time; a save's.
-        place, tint, counted = {"fill": (numbers[:3], numbers[3:4], numbers[4:]), "stamp": (numbers[:3], numbers[3:4], numbers[4:]),
-                                "save": ([], numbers[:1], numbers[1:])}[kind]
-        if tint == [0]:
+        # A fill's size and tint, its turns, those of one over it, and its time; a stamp's place, whether it is tinted, its
+        # turns and time; how many tinted fills a save's world has, and its time.
+        at = 0 if kind == "save" else 3
+        tint, counted = numbers[at], numbers[at + 1:]
+        if not tint:
             plain[kind] = counted
         times = ", ".join(f"{a / max(b, 1):.2f}" for a, b in zip(counted, plain.get(kind) or counted))
-        told.append(f"{kind} {' '.join(map(str, place))} {tint[0]}: {', '.join(map(str, counted))}; in times the plain one's {times}")
+        what = " ".join(words[: at + 1])
+        told.append(f"{kind} {what}: {', '.join(map(str, counted))}; in times the plain one's {times}")
     return told
 
 
@@ -234,12 +247,12 @@ def octree(_: Path) -> list[Path]:
     return [timed.peers() / "svdag_rs/src" / name for name in ("store.rs", "ask.rs")]
 
 
-CALLS = Part("store_run history_model node_words transcript vox_read vw_cell", "")
+CALLS = Part("store_run history_model node_words transcript vox_read vw_cell", "", is_proved=False)
 
 
 @dataclass(frozen=True)
 class Library:
-    """60,000 small fills through C beside the program's time for the same script, and 1,000,000 gets beside those of the crate."""
+    """60,000 small fills through C beside the program's time for them, and 1,000,000 gets beside those of the crate."""
 
     def run(self, name: str, rounds: int, is_counted: bool) -> list[str]:
         folder = room("library")
@@ -247,7 +260,8 @@ class Library:
         if not (made / "libvoxdag.a").is_file():
             command([ROOT / "tools/build-library", made])
         calls = folder / "calls"
-        command(["cc", "-O2", "-std=c11", "-Wall", "-I", ROOT / "include", "-o", calls, HERE / "library/calls.c", made / "libvoxdag.a"])
+        flags = ["-O2", "-std=c11", "-Wall", "-I", ROOT / "include"]
+        command(["cc", *flags, "-o", calls, HERE / "library/calls.c", made / "libvoxdag.a"])
         command([calls, "fills.txt", "60000", "0"], cwd=folder)
         (folder / "none.txt").write_text("")
         run = [product(), "run", "--side", "256", ROOT / "models/one.vox"]
@@ -260,7 +274,8 @@ class Library:
         done = (folder / "fills.txt.out").read_text().count(" ok\n")
         differs = "" if said["done"] == str(done) else f"; THE TWO DID OTHER THINGS: {said['done']}, {done}"
         program = found["fills"].least - found["none"].least
-        return [f"{name}, of {rounds}: fills by C {float(said['total']) / 1e9:.3f} s (the last), by the program {program:.3f} s, opening apart; "
+        return [f"{name}, of {rounds}: fills by C {float(said['total']) / 1e9:.3f} s (the last), "
+                f"by the program {program:.3f} s, opening apart; "
                 f"a get by C {said['get']} ns, by the crate {found['crate'].printed.split()[1]} ns{differs}"]
 
 
@@ -268,13 +283,14 @@ STORES = " ".join(reversed(below("edit_ops edit_copy edit_stamp measure ray_walk
 ROWS: dict[str, Part | Library] = {
     "kernels": Part("node_words vw_cell", "", peer=None),
     "one_store": Part("one_store core_laws node_words vw_cell", "kind time sum", scale=0.1, aim=1.3, more=begun, peaks={
-        "a store of side 4,096 by the usual plan": ["usual"], "one of side 256 with 4,096 buckets of 256 a level": ["large", "plan"]}),
-    "table": Part("hands release intern node_table table_rule one_store edit_walk history_model vox_read node_words vw_cell", "kind time sum",
-                  scale=0.1, aim=1.5, more=threads, peaks={"a table of side 4,096 by the usual plan": ["usual"]}),
+        "a store of side 4,096 by the usual plan": ["usual"],
+        "one of side 256 with 4,096 buckets of 256 a level": ["large", "plan"]}),
+    "table": Part("hands release intern node_table table_rule one_store edit_walk history_model vox_read node_words vw_cell",
+                  "kind time sum", scale=0.1, aim=1.5, more=threads, peaks={"a table of side 4,096 by the usual plan": ["usual"]}),
     "log": Part("version_log release intern node_table history_model vox_read node_words vw_cell", "kind time sum", peer=None,
                 is_proved=False, more=log_calls),
-    "tints": Part("core_laws colour history_model edit_ops edit_stamp extract one_store vox_read vox_write node_words vw_cell", "kind time", peer=None,
-                  is_proved=False, more=tinted),
+    "tints": Part("core_laws colour history_model edit_ops edit_stamp extract one_store vox_read vox_write node_words vw_cell",
+                  "kind time", peer=None, is_proved=False, more=tinted),
     "flood": Part("flood edit_stamp edit_walk one_store node_words vox_read vw_cell", "time sum", "ms", 1e-3, aim=1, cases=floods),
     "texts": Part("plain_text vw_cell vox_read history_model transcript", "kind time sum", "ms", 1e-3, aim=2, cases=texts),
     "scenes": Part("byteorder vox_read vox_scene vw_cell", "time sum", "ms", 1e-3, peer="scene", aim=1.5, cases=scenes),

@@ -130,12 +130,17 @@ class Opening:
         write(folder)
         words: Words = [product(), "run", "--side", "4096", ROOT / "models/one.vox", "nothing"]
         its = best([timed(words, folder) for _ in range(rounds)])
-        return [f"{name}: least {1e3 * its.least:.0f}, median {1e3 * its.median:.0f} ms (aim 60), peak {its.peak / 1e6:.0f} MB (aim 150), of {rounds}"]
+        took = f"least {1e3 * its.least:.0f}, median {1e3 * its.median:.0f} ms (aim 60)"
+        return [f"{name}: {took}, peak {its.peak / 1e6:.0f} MB (aim 150), of {rounds}"]
 
 
 ROWS: dict[str, Sessions | Opening] = {
     "opening": Opening(),
-    "sessions_small": Sessions("small", 0.9), "sessions_place": Sessions("place", 0.5), "sessions_large": Sessions("large", 2),
-    "sessions_readers": Sessions("reader", 3.5, "balls", ("editor",)), "sessions_only_readers": Sessions("reader", None, "balls"),
-    "processes_large": Sessions("large", None, in_processes=True), "processes_readers": Sessions("reader", None, "balls", in_processes=True),
+    "sessions_small": Sessions("small", 0.9),
+    "sessions_place": Sessions("place", 0.5),
+    "sessions_large": Sessions("large", 2),
+    "sessions_readers": Sessions("reader", 3.5, "balls", ("editor",)),
+    "sessions_only_readers": Sessions("reader", None, "balls"),
+    "processes_large": Sessions("large", None, in_processes=True),
+    "processes_readers": Sessions("reader", None, "balls", in_processes=True),
 }

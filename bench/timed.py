@@ -15,7 +15,8 @@ WORK = HERE / "work"
 os.environ.setdefault("GLIBC_TUNABLES", "glibc.malloc.hugetlb=1")
 PROGRAMS = [ROOT / ".build/voxdag", ROOT / "crates/voxdag/out/voxdag"]
 # The counted cache: a first level of 48 KB, and a last one of 1 MB.
-VALGRIND = ["valgrind", "--tool=callgrind", "--callgrind-out-file=/dev/null", "--cache-sim=yes", "--D1=49152,12,64", "--LL=1048576,16,64"]
+VALGRIND = ["valgrind", "--tool=callgrind", "--callgrind-out-file=/dev/null", "--cache-sim=yes", "--D1=49152,12,64",
+            "--LL=1048576,16,64"]
 COUNTED = {"instructions": r"I\s+refs:", "misses of 48 KB": r"D1\s+misses:", "misses of 1 MB": r"LLd misses:"}
 Words = list[str | Path]
 

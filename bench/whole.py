@@ -48,14 +48,23 @@ def times(name: str, pair: Pair, rounds: int, aim: float | None) -> list[str]:
     for side in sides:
         its, opened = found[side.name], found.get(f"{side.name} opening")
         opening = f", opening {opened.least:.3f}, {opened.median:.3f}, {opened.processor:.3f} s" if opened else ""
-        lines.append(f"  {side.name}: least {its.least:.3f}, median {its.median:.3f}, processor {its.processor:.3f} s{opening}, peak {its.peak / 1e6:.1f} MB")
-    ratio = lambda a, b: ", ".join(f"{(getattr(ours, of) - a(of)) / max(getattr(theirs, of) - b(of), 1e-6):.2f}" for of in ("least", "median", "processor"))
-    ratios = [ratio(lambda of: 0, lambda of: 0)]
+        took = f"least {its.least:.3f}, median {its.median:.3f}, processor {its.processor:.3f} s"
+        lines.append(f"  {side.name}: {took}{opening}, peak {its.peak / 1e6:.1f} MB")
+    ratios = [ratio(ours, theirs)]
     if pair.ours.opening and pair.theirs.opening:
         a, b = (found[f"{side.name} opening"] for side in sides)
-        ratios.append(f"opening apart {ratio(lambda of: getattr(a, of), lambda of: getattr(b, of))}")
+        ratios.append(f"opening apart {ratio(ours, theirs, a, b)}")
     lines.append(f"  {pair.ours.name}/{pair.theirs.name}: {'; '.join(ratios)}{timed.aim_of(aim)}, of {rounds}")
     return lines + [f"  {what}" for what in pair.check(ours, theirs)]
+
+
+def ratio(ours: Best, theirs: Best, off_ours: Best | None = None, off_theirs: Best | None = None) -> str:
+    """By the least, the median and the processor time, with an opening of each taken off."""
+    told = []
+    for of in ("least", "median", "processor"):
+        a, b = (getattr(its, of) - (getattr(off, of) if off else 0) for its, off in ((ours, off_ours), (theirs, off_theirs)))
+        told.append(f"{a / max(b, 1e-6):.2f}")
+    return ", ".join(told)
 
 
 def counts(name: str, pair: Pair) -> list[str]:
@@ -66,7 +75,8 @@ def counts(name: str, pair: Pair) -> list[str]:
         opening = counted(side.opening, pair.folder) if side.opening else [0] * len(whole)
         apart.append([of - off for of, off in zip(whole, opening)])
         told = ", ".join(f"{(of - off) / 1e6:.2f}" for of, off in zip(whole, opening))
-        lines.append(f"  {side.name}, in millions: {told}" + (f"; opening {', '.join(f'{off / 1e6:.2f}' for off in opening)}" if side.opening else ""))
+        opened = f"; opening {', '.join(f'{off / 1e6:.2f}' for off in opening)}" if side.opening else ""
+        lines.append(f"  {side.name}, in millions: {told}{opened}")
     ratios = ", ".join(f"{a / max(b, 1):.2f} {what}" for a, b, what in zip(*apart, timed.COUNTED))
     return lines + [f"  {pair.ours.name}/{pair.theirs.name}: {ratios}"]
 
@@ -133,18 +143,20 @@ def run_of(name: str, counted_lines: int | None = None, plan: tuple[str, ...] = 
         ours: Words = [product(), "run", "--side", str(side), *plan, f"{name}.vox"]
         theirs: Words = [svdag(), "--side", str(side), "--out", "peer", f"{name}.vox"]
         all_of_ours: Words = [product(), "demo", name[4:]] if name.startswith("demo") else ours + scripts
-        check = (lambda a, b: same_bytes(folder, scripts[0])) if len(scripts) == 1 else (lambda a, b: same_answers(folder, scripts))
+        sides = Side("program", all_of_ours, ours + nothing), Side("svdag_rs", theirs + scripts, theirs + nothing)
         if name.startswith("demo"):
-            check = lambda a, b: []
-        return Pair(folder, Side("program", all_of_ours, ours + nothing), Side("svdag_rs", theirs + scripts, theirs + nothing), check)
+            return Pair(folder, *sides)
+        same = same_bytes if len(scripts) == 1 else same_answers
+        return Pair(folder, *sides, lambda a, b: same(folder, scripts))
 
     return Whole(pair, 1.5)
 
 
-def same_bytes(folder: Path, script: str) -> list[str]:
+def same_bytes(folder: Path, scripts: list[str]) -> list[str]:
     """Where the script's transcript and the files that it saves differ from the peer's."""
-    saved = re.findall(r"^save (\S+)", (folder / script).read_text(), re.M)
-    return [f"{name} differs" for name in [f"{script}.out", *saved] if (folder / name).read_bytes() != (folder / "peer" / name).read_bytes()]
+    saved = re.findall(r"^save (\S+)", (folder / scripts[0]).read_text(), re.M)
+    differs = lambda name: (folder / name).read_bytes() != (folder / "peer" / name).read_bytes()
+    return [f"{name} differs" for name in [f"{scripts[0]}.out", *saved] if differs(name)]
 
 
 def same_answers(folder: Path, scripts: list[str]) -> list[str]:
@@ -170,7 +182,8 @@ def same_print(a: Best, b: Best) -> list[str]:
 def count_of(kind: str, maker: str) -> Whole:
     def pair(is_counted: bool) -> Pair:
         file = made_once(room("files") / f"{kind}.vox", maker, kind)
-        return Pair(file.parent, Side("program", [product(), "count", file]), Side("read.c", [tool("read"), "count", file]), same_print)
+        theirs = Side("read.c", [tool("read"), "count", file])
+        return Pair(file.parent, Side("program", [product(), "count", file]), theirs, same_print)
 
     return Whole(pair, 1.5)
 
@@ -184,7 +197,8 @@ def script_of(kind: str) -> Whole:
         shutil.copy(ours, theirs)
         model, plain = ROOT / "models/one.vox", tool("script")
         check = lambda a, b: ["the transcripts differ"] * (Path(f"{ours}.out").read_bytes() != Path(f"{theirs}.out").read_bytes())
-        return Pair(folder, Side("program", [product(), "run", "--side", "256", *ROOMY, model, ours]), Side("script.c", [plain, "256", model, theirs]), check)
+        run: Words = [product(), "run", "--side", "256", *ROOMY, model, ours]
+        return Pair(folder, Side("program", run), Side("script.c", [plain, "256", model, theirs]), check)
 
     return Whole(pair)
 
@@ -252,9 +266,11 @@ def write_changes(file: Path, number: int, low: int, width: int) -> None:
 
 FULL_PLANS = {"history", "corner4096", "shared1", "shared4", "spheres4096"}
 COUNTED_LINES = {"small256": 3000, "history": 8000, "small4096": 8000}
-RUNS = ["small256", "small1024", "small4096", "small1024x4", "history", "stamp_drawn", "stamp_icon256", "copies1024", "spheres1024", "spheres2048",
-        "spheres4096", "pinned256", "pinned1024", "rays1024", "full256", "full4096", "shared1", "shared4", "corner4096", "saves", "demo7"]
-ROWS: dict[str, Whole] = {name: run_of(name, COUNTED_LINES.get(name), tuple(ROOMY) if name in FULL_PLANS else ()) for name in RUNS}
+RUNS = ["small256", "small1024", "small4096", "small1024x4", "history", "stamp_drawn", "stamp_icon256", "copies1024",
+        "spheres1024", "spheres2048", "spheres4096", "pinned256", "pinned1024", "rays1024", "full256", "full4096", "shared1",
+        "shared4", "corner4096", "saves", "demo7"]
+ROWS: dict[str, Whole] = {
+    name: run_of(name, COUNTED_LINES.get(name), tuple(ROOMY) if name in FULL_PLANS else ()) for name in RUNS}
 FILES: dict[str, Whole] = {
     "count_ordered": count_of("ordered", "make_plain"), "count_random": count_of("random", "make_plain"),
     "count_large": count_of("large", "make_models"), "count_many": count_of("many", "make_models"),
