@@ -1,5 +1,6 @@
 pub mod Apart
 pub mod Children
 pub mod KeyLaws
+pub mod Lines
 pub mod SpotTests
 pub mod Prefixes

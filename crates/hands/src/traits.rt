@@ -1,25 +1,7 @@
-ghost use Rattle.std.specs.Prelude.{◌≡◌, ◌≤◌};
-ghost use Rattle.node_words.specs.Held.{ReachesName};
-ghost use Rattle.release.specs.Seen.{BelongsTo};
-
 use crate::hand::Hand;
 use node_words::{Blocks, Full, Name, NodeRefused, NodeStore, Share, Steps};
-use release::{NodeTable, Pass};
 use std::sync::Wait;
 use std::sync::ledger::Ledger;
-
-// Loads the words of a node's children that the word of octant 0 isn't. An edit asks for all eight
-// in a row and takes turns between, and no load overtakes the exchange that takes a turn.
-fn load_ahead(table: &NodeTable, session: &mut Pass, n: Name)
-    requires of { BelongsTo table.now session.old }
-    requires reached { ReachesName session.old.view.held n }
-    requires level { 1 ≤ n.level }
-    ensures same { session.new ≡ session.old }
-{
-    let _third = table.child_at(session, n, 2);
-    let _fifth = table.child_at(session, n, 4);
-    let _seventh = table.child_at(session, n, 6);
-}
 
 impl<'a, R> Blocks for Hand<'a, R> {
     ghost use Rattle.hands.specs.Lent.{StaysLent, lent_itself, lent_on, hand_seen};
@@ -35,9 +17,6 @@ impl<'a, R> Blocks for Hand<'a, R> {
 
     fn child_at(&mut self, n: Name, octant: u8) -> Option<Name> {
         self.session.tell();
-        if octant == 0 {
-            load_ahead(self.table, self.session, n);
-        }
         self.table.child_at(self.session, n, octant)
     }
 

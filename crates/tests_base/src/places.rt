@@ -25,53 +25,76 @@ fn words_stand_for_children(rt: HostRuntime) {
     assert_eq!(rt; halves(8_589_934_593), (1, 2));
 }
 
-// Three words and those of 65,536 versions, then 15,872 turns, each with the number of used slots
-// behind it, then 8,585,216 words of entries.
+// Three words, those of 65,536 versions and three that stay 0, then the buckets: 4,096 of leaves
+// with 264 words each, and 11,776 of nodes with 648.
 #[test]
-fn versions_and_turns_stand_before_entries(rt: HostRuntime) -> Result<(), Fail> {
+fn versions_stand_before_buckets(rt: HostRuntime) -> Result<(), Fail> {
     let side = Side::new(4096).ok_or("a side")?;
     let usual = Places::new(&Plan::usual(side));
-    assert_eq!(rt; usual.width(), 3 + 524_288 + 2 * 15_872 + 8_585_216);
+    assert_eq!(rt; usual.width(), 3 + 524_288 + 3 + 4_096 * 264 + 11_776 * 648);
     let places = (usual.sessions(), usual.log_turn(), usual.log_length());
     assert_eq!(rt; places, (0, 1, 2));
     assert_eq!(rt;
         (usual.version(0, 0), usual.version(65_535, 7)),
         (3, 524_290)
     );
-    assert_eq!(rt; (usual.turn(0, 0), usual.turn(0, 4095)), (524_291, 532_481));
-    assert_eq!(rt; (usual.used(0, 0), usual.used(0, 4095)), (524_292, 532_482));
+    assert_eq!(rt;
+        (usual.turn(0, 0), usual.turn(0, 4095)),
+        (524_294, 1_605_374)
+    );
+    assert_eq!(rt;
+        (usual.used(0, 0), usual.used(0, 4095)),
+        (524_295, 1_605_375)
+    );
     Ok(())
 }
 
-// A bucket of leaves has 128 books and 128 keys, one of nodes 128 books and four times 128 words
-// of keys.
+// A bucket's head has 136 words: its turn, its used slots, 128 books and six words that stay 0.
+// Behind it stand 128 keys of one word, or of four side by side.
 #[test]
-fn books_stand_before_keys(rt: HostRuntime) -> Result<(), Fail> {
+fn keys_stand_behind_heads(rt: HostRuntime) -> Result<(), Fail> {
     let side = Side::new(4096).ok_or("a side")?;
     let usual = Places::new(&Plan::usual(side));
-    for (level, bucket, slot, book) in [
-        (0, 0, 0, 556_035),
-        (0, 0, 127, 556_162),
-        (0, 1, 0, 556_291),
-        (1, 0, 0, 1_604_611),
-        (1, 1, 5, 1_605_256),
+    for (level, bucket, slot, book, key) in [
+        (0, 0, 0, 524_296, 524_430),
+        (0, 0, 127, 524_423, 524_557),
+        (0, 1, 0, 524_560, 524_694),
+        (1, 0, 0, 1_605_640, 1_605_774),
+        (1, 1, 5, 1_606_293, 1_606_442),
     ] {
         let places = (
             usual.book(level, bucket, slot),
             usual.key(level, bucket, slot, 0),
         );
-        assert_eq!(rt; places, (book, book + 128));
+        assert_eq!(rt; places, (book, key));
     }
-    assert_eq!(rt; usual.bucket(1, 1), 1_605_251);
-    assert_eq!(rt; usual.key(1, 1, 5, 3), 1_605_256 + 512);
+    assert_eq!(rt; (usual.bucket(1, 1), usual.head()), (1_606_286, 136));
+    assert_eq!(rt; usual.key(1, 1, 5, 3), 1_606_445);
+    Ok(())
+}
+
+// Each bucket begins with a line of memory, whatever the cap, since the table's memory begins two
+// words behind one.
+#[test]
+fn buckets_begin_with_lines(rt: HostRuntime) -> Result<(), Fail> {
+    let side = Side::new(64).ok_or("a side")?;
+    let odd = Places::new(&Plan::even(side, 3, 13).ok_or("a plan")?);
+    for (level, bucket, place) in [
+        (0, 0, 524_294),
+        (0, 1, 524_326),
+        (1, 0, 524_390),
+        (1, 1, 524_462),
+    ] {
+        assert_eq!(rt; (odd.bucket(level, bucket), place % 8), (place, 6));
+    }
     Ok(())
 }
 
 #[test]
 fn tables_have_the_width_of_their_plan(rt: HostRuntime) -> Result<(), Fail> {
     let large = Plan::even(Side::new(4096).ok_or("a side")?, 4096, 256).ok_or("a plan")?;
-    assert_eq!(rt; Places::new(&large).width(), 55_140_355);
+    assert_eq!(rt; Places::new(&large).width(), 55_410_694);
     let small = Plan::even(Side::new(4).ok_or("a side")?, 1, 1).ok_or("a plan")?;
-    assert_eq!(rt; Places::new(&small).width(), 524_291 + 2 + 2);
+    assert_eq!(rt; Places::new(&small).width(), 524_294 + 8 + 8);
     Ok(())
 }

@@ -1,10 +1,9 @@
 -- Sums of the first terms, kept in a list.
-use Rattle.std.proofs.Common.{◌≡◌, ℕ, zero, suc, ◌+◌, ◌*◌, ◌<◌, ◌≤◌, List, length, get_or, set, ap, ◌∙◌, ◌⊎◌, inl, inr, arith, add-one}
+use Rattle.std.proofs.Common.{◌≡◌, ℕ, ◌+◌, ◌*◌, ◌<◌, ◌≤◌, List, length, get_or, set, ap, ◌∙◌, ◌⊎◌, inl, inr, arith, add-one}
 use Rattle.std.proofs.lemmas.List.{get_or-set_same, get_or-set_other, length-set}
 use Rattle.std.proofs.lemmas.Nat.{mul-le}
 use Rattle.std.proofs.lemmas.Bool.{cases_order}
 use Rattle.node_words.specs.Sums.{sum_below, sum_below-zero, sum_below-suc, sum_below-le}
-use Rattle.core_laws.specs.places.Spots.{entry_words}
 
 -- up to the first n terms
 pub record EndsTo (n first : ℕ) (f : ℕ → ℕ) (ends : List ℕ) : Type 0 where
@@ -53,14 +52,3 @@ ends_none first f ends long here =
       at = λ k le.
           (let zero_is : k ≡ 0 = omega (arith, le) in rw zero_is (omega (arith, here, none)));
     }
-
--- bounds of what a level adds
-pub words_small : (level : ℕ) → entry_words level ≤ 5
-words_small zero = omega arith
-words_small (suc level) = omega arith
-
-pub level_small : (level cap buckets : ℕ) → cap ≤ 65535 → buckets ≤ 65535
-    → cap * entry_words level * buckets ≤ 65535 * 5 * 65535
-level_small level cap buckets of_cap of_buckets =
-    mul-le (cap * entry_words level) buckets (65535 * 5) 65535
-    (mul-le cap (entry_words level) 65535 5 of_cap (words_small level)) of_buckets

@@ -1,15 +1,17 @@
--- Where the words of each level begin and end, found once for a plan.
-use Rattle.std.specs.Prelude.{◌≡◌, ℕ, ◌+◌, ◌^◌, ◌<◌, ◌≤◌, List, slice_index}
+-- Where the buckets of each level begin and how many words they have, found once for a plan.
+use Rattle.std.specs.Prelude.{◌≡◌, ◌≢◌, ℕ, ◌+◌, ◌^◌, ◌<◌, ◌≤◌, List, slice_index}
 use Rattle.node_words.specs.Sums.{sum_below}
 use Rattle.node_words.specs.Plans.{Layout, IsPlan}
-use Rattle.core_laws.specs.places.Spots.{buckets_at, level_words, first_entry}
+use Rattle.core_laws.specs.places.Spots.{head_words, bucket_words, level_words, first_bucket}
 
--- for each number of levels, how many buckets so many levels have, and where their entries end
-pub record AreFirsts (p : Layout) (buckets entries : List ℕ) : Type 0 where
+-- how many words the head of a bucket has, a bucket of leaves and one of nodes; and for each number
+-- of levels, where the buckets of so many levels end
+pub record AreFirsts (p : Layout) (head leaves nodes : ℕ) (starts : List ℕ) : Type 0 where
   pub plan : IsPlan p
-  pub buckets_end : (levels : ℕ) → levels ≤ 11
-      → slice_index buckets levels ≡ sum_below levels (buckets_at p)
-  pub entries_end : (levels : ℕ) → levels ≤ 11
-      → slice_index entries levels ≡ first_entry p + sum_below levels (level_words p)
-  pub buckets_small : (levels : ℕ) → levels ≤ 11 → slice_index buckets levels < 2 ^ 20
-  pub entries_small : (levels : ℕ) → levels ≤ 11 → slice_index entries levels < 2 ^ 40
+  pub head_is : head ≡ head_words p
+  pub leaves_are : leaves ≡ bucket_words p 0
+  pub nodes_are : (level : ℕ) → level ≢ 0 → nodes ≡ bucket_words p level
+  pub starts_are : (levels : ℕ) → levels ≤ 11
+      → slice_index starts levels ≡ first_bucket + sum_below levels (level_words p)
+  pub small : (head < 2 ^ 20) × (leaves < 2 ^ 20) × (nodes < 2 ^ 20)
+  pub starts_small : (levels : ℕ) → levels ≤ 11 → slice_index starts levels < 2 ^ 40

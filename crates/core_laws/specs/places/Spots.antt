@@ -1,5 +1,5 @@
 -- Where each word of a store and of its log stands in one table.
-use Rattle.std.specs.Prelude.{ℕ, zero, suc, ◌+◌, ◌-◌, ◌*◌, ◌<◌}
+use Rattle.std.specs.Prelude.{ℕ, zero, suc, ◌+◌, ◌-◌, ◌*◌, ◌/◌, ◌<◌}
 use Rattle.node_words.specs.Sums.{sum_below}
 use Rattle.node_words.specs.Plans.{Layout}
 pub use Rattle.node_words.specs.Plans.{buckets_at}
@@ -30,49 +30,50 @@ abbrev pub key_words : ℕ → ℕ
 key_words zero = 1
 key_words (suc level) = 4
 
--- an entry has its book and the words of its key
-abbrev pub entry_words : ℕ → ℕ
-entry_words level = key_words level + 1
-
 -- the number of levels of the world
 abbrev pub levels : Layout → ℕ
 levels p = p.side - 1
 
--- the words of a bucket, and of all buckets of a level
+-- so many words, up to a whole line of memory, which has eight
+unfoldable pub whole_lines : ℕ → ℕ
+whole_lines n = (n + 7) / 8 * 8
+
+-- a bucket begins with its turn, the number of its used slots and the books of all slots
+abbrev pub head_words : Layout → ℕ
+head_words p = whole_lines (p.cap + 2)
+
+-- the words of a bucket, in which the keys stand behind the head, and of all buckets of a level
 abbrev pub bucket_words : Layout → ℕ → ℕ
-bucket_words p level = p.cap * entry_words level
+bucket_words p level = whole_lines (p.cap + 2) + whole_lines (key_words level * p.cap)
 
 abbrev pub level_words : Layout → ℕ → ℕ
 level_words p level = bucket_words p level * buckets_at p level
 
--- the turns stand behind the versions, each with the number of used slots behind it, and the
--- entries behind the turns
-abbrev pub first_turn : ℕ
-first_turn = 3 + version_words * versions
+-- The buckets stand behind the words of versions and three words that stay 0. The table's memory
+-- begins two words behind a line, so each bucket begins with a line.
+abbrev pub first_bucket : ℕ
+first_bucket = 6 + version_words * versions
 
-abbrev pub first_entry : Layout → ℕ
-first_entry p = first_turn + 2 * sum_below (levels p) (buckets_at p)
+-- the place of a word of a bucket, by its number in the bucket
+abbrev pub word_place : Layout → ℕ → ℕ → ℕ → ℕ
+word_place p level bucket i =
+    first_bucket + (sum_below level (level_words p) + (bucket * bucket_words p level + i))
 
--- In a bucket the books of all slots stand side by side, then the first words of their keys, then
--- the second ones, and so on. The place of the word of this lane, of which lane 0 has the books.
-abbrev pub lane_place : Layout → ℕ → ℕ → ℕ → ℕ → ℕ
-lane_place p level bucket lane slot =
-    first_entry p +
-    (sum_below level (level_words p) + (bucket * bucket_words p level + (lane * p.cap + slot)))
-
+-- behind the head the keys stand one by one, the words of each side by side
 abbrev pub place : Layout → Spot → ℕ
 place p Sessions = 0
 place p LogTurn = 1
 place p LogLength = 2
 place p (Version version word) = 3 + (version * version_words + word)
-place p (Turn level bucket) = first_turn + 2 * (sum_below level (buckets_at p) + bucket)
-place p (Used level bucket) = first_turn + (2 * (sum_below level (buckets_at p) + bucket) + 1)
-place p (Key level bucket slot word) = lane_place p level bucket (word + 1) slot
-place p (Book level bucket slot) = lane_place p level bucket 0 slot
+place p (Turn level bucket) = word_place p level bucket 0
+place p (Used level bucket) = word_place p level bucket 1
+place p (Book level bucket slot) = word_place p level bucket (2 + slot)
+place p (Key level bucket slot word) =
+    word_place p level bucket (head_words p + (slot * key_words level + word))
 
 -- how many words there are
 abbrev pub width : Layout → ℕ
-width p = first_entry p + sum_below (levels p) (level_words p)
+width p = first_bucket + sum_below (levels p) (level_words p)
 
 -- a slot of a bucket of a level
 pub record IsSlot (p : Layout) (level bucket slot : ℕ) : Type 0 where

@@ -1,6 +1,7 @@
 ghost use Rattle.std.specs.Prelude.{◌≡◌, ℕ, ◌+◌, ◌-◌, ◌*◌, ◌^◌, ◌<◌, ◌≤◌, slice_index};
 ghost use Rattle.node_words.specs.Sums.{sum_below};
-ghost use Rattle.core_laws.specs.places.Spots.{place, width, key_words, entry_words, bucket_words, lane_place, Sessions, LogTurn, LogLength, Version, Turn, Used, Key, Book, IsSpot};
+ghost use Rattle.core_laws.specs.places.Spots.{place, width, key_words, head_words, word_place, Sessions, LogTurn, LogLength, Version, Turn, Used, Key, Book, IsSpot};
+ghost use Rattle.core_laws.specs.places.Spots.{bucket_words, first_bucket, whole_lines};
 
 use node_words::Plan;
 use std::marker::Model;
@@ -8,16 +9,19 @@ use std::marker::Model;
 /// Where the words of versions begin, eight of each.
 const FIRST_VERSION: usize = 3;
 
-/// Where the turns of buckets begin, behind the words of 65,536 versions.
-const FIRST_TURN: usize = 524_291;
+/// Where the first bucket begins, behind the words of 65,536 versions and three that stay 0.
+const FIRST_BUCKET: usize = 524_294;
 
 /// Where each word of a store and of its log stands in one table, by a plan. What the places of a
-/// level start from is found once, when it is made. Contracts see the plan.
+/// level start from, and how many words its buckets have, is found once, when it is made. Contracts
+/// see the plan.
 #[derive(Drop)]
 pub struct Places {
     plan: Plan,
-    buckets: [usize; 12],
-    entries: [usize; 12],
+    head: usize,
+    leaves: usize,
+    nodes: usize,
+    starts: [usize; 12],
 }
 
 impl Model for Places {
@@ -28,22 +32,23 @@ impl Model for Places {
 
     ghost view = { λ p. p.plan };
 
-    ghost invariant = { λ p. AreFirsts p.plan p.buckets p.entries };
+    ghost invariant = { λ p. AreFirsts p.plan p.head p.leaves p.nodes p.starts };
 }
 
 impl Places {
     /// The places of this plan's words.
+    #[tactic(auto, using(crate::proofs::OfPlaces::Lines::nodes_alike))]
     pub fn new(plan: &Plan) -> Places
         ensures { result ≡ plan.now }
     {
         let of_levels = plan.buckets();
-        let buckets = buckets_of(&of_levels);
-        let first = FIRST_TURN + 2 * buckets[levels_of(plan)];
-        let entries = entries_of(first, &of_levels, plan.cap());
+        let cap = plan.cap();
         Places {
             plan: *plan,
-            buckets,
-            entries,
+            head: whole_lines(usize::from(cap) + 2),
+            leaves: words_of(cap, 0),
+            nodes: words_of(cap, 1),
+            starts: starts_of(&of_levels, cap),
         }
     }
 
@@ -51,7 +56,7 @@ impl Places {
     pub fn width(&self) -> usize
         ensures { result ≡ width self.now }
     {
-        self.entries[levels_of(&self.plan)]
+        self.starts[levels_of(&self.plan)]
     }
 
     /// The place of the word that counts the sessions made.
@@ -84,48 +89,71 @@ impl Places {
     }
 
     /// The place of a bucket's turn.
+    #[inline(always)]
     pub fn turn(&self, level: u8, bucket: u16) -> usize
         requires { IsSpot self.now (Turn level bucket) }
         ensures { result ≡ place self.now (Turn level bucket) }
     {
-        FIRST_TURN + 2 * (self.buckets[usize::from(level)] + usize::from(bucket))
+        self.bucket(level, bucket)
     }
 
     /// The place of the word that says how many slots of a bucket were ever used. It stands behind
     /// the bucket's turn.
+    #[inline(always)]
     pub fn used(&self, level: u8, bucket: u16) -> usize
         requires { IsSpot self.now (Used level bucket) }
         ensures { result ≡ place self.now (Used level bucket) }
     {
-        FIRST_TURN + (2 * (self.buckets[usize::from(level)] + usize::from(bucket)) + 1)
-    }
-
-    /// The place of a word of the key in this slot; a leaf's key has one, a node's four.
-    pub fn key(&self, level: u8, bucket: u16, slot: u8, word: u8) -> usize
-        requires { IsSpot self.now (Key level bucket slot word) }
-        ensures { result ≡ place self.now (Key level bucket slot word) }
-    {
-        let lane = usize::from(word) + 1;
-        self.bucket(level, bucket) + (lane * usize::from(self.plan.cap()) + usize::from(slot))
+        self.bucket(level, bucket) + 1
     }
 
     /// The place of the book in this slot.
+    #[inline(always)]
     pub fn book(&self, level: u8, bucket: u16, slot: u8) -> usize
         requires { IsSpot self.now (Book level bucket slot) }
         ensures { result ≡ place self.now (Book level bucket slot) }
     {
-        self.bucket(level, bucket) + usize::from(slot)
+        self.bucket(level, bucket) + (2 + usize::from(slot))
     }
 
-    /// The place of a bucket's first word. From it on stand the books of the bucket's slots side by
-    /// side, then the first words of their keys, and so on, each run as long as the plan's cap.
+    /// The place of a word of the key in this slot; a leaf's key has one, a node's four.
+    #[inline(always)]
+    pub fn key(&self, level: u8, bucket: u16, slot: u8, word: u8) -> usize
+        requires { IsSpot self.now (Key level bucket slot word) }
+        ensures { result ≡ place self.now (Key level bucket slot word) }
+    {
+        let number = usize::from(slot) * key_words(level) + usize::from(word);
+        self.bucket(level, bucket) + (self.head + number)
+    }
+
+    /// The place of a bucket's first word, at which a line of memory begins. A bucket's head is its
+    /// turn, how many of its slots were ever used, and the books of all slots; the keys stand
+    /// behind the head, the words of each side by side.
+    #[inline(always)]
     pub fn bucket(&self, level: u8, bucket: u16) -> usize
         requires { IsSpot self.now (Turn level bucket) }
-        ensures value { result ≡ lane_place self.now level bucket 0 0 }
+        ensures value { result ≡ word_place self.now level bucket 0 }
         ensures bound { result < 2 ^ 41 }
     {
-        let words = usize::from(self.plan.cap()) * (key_words(level) + 1);
-        self.entries[usize::from(level)] + usize::from(bucket) * words
+        self.starts[usize::from(level)] + usize::from(bucket) * self.bucket_words(level)
+    }
+
+    // How many words a bucket of this level has.
+    #[inline(always)]
+    fn bucket_words(&self, level: u8) -> usize
+        ensures value { result ≡ bucket_words self.now level }
+        ensures bound { result < 2 ^ 20 }
+    {
+        if level == 0 { self.leaves } else { self.nodes }
+    }
+
+    /// How many words of a bucket stand before its keys.
+    #[inline(always)]
+    pub fn head(&self) -> usize
+        ensures value { result ≡ head_words self.now }
+        ensures bound { result < 2 ^ 20 }
+    {
+        self.head
     }
 }
 
@@ -145,30 +173,36 @@ fn key_words(level: u8) -> usize
     if level == 0 { 1 } else { 4 }
 }
 
-// How many buckets the first levels have, for each number of levels.
-fn buckets_of(buckets: &[u16; 11]) -> [usize; 12]
-    ensures ends { (levels : ℕ) → levels ≤ 11
-        → slice_index result levels ≡ sum_below levels (λ level. slice_index buckets.now level) }
-    ensures small { (levels : ℕ) → levels ≤ 11 → slice_index result levels < 2 ^ 20 }
+// So many words, up to a whole line of memory, which has eight.
+#[tactic(auto, unfolding(crate::specs::places::Spots::whole_lines))]
+fn whole_lines(words: usize) -> usize
+    requires { words < 2 ^ 19 }
+    ensures value { result ≡ whole_lines words }
+    ensures bound { result ≤ words + 7 }
 {
-    let mut ends = [0; 12];
-    for level in 0..11 {
-        ends[level + 1] = ends[level] + usize::from(buckets[level]);
-    }
-    ends
+    (words + 7) / 8 * 8
 }
 
-// Where the entries of the first levels end, for each number of levels.
-fn entries_of(first: usize, buckets: &[u16; 11], cap: u16) -> [usize; 12]
-    requires { first < 2 ^ 22 }
+// How many words a bucket of this level has, by the cap.
+#[tactic(auto, using(crate::proofs::OfPlaces::Lines::keys_few, crate::proofs::OfPlaces::Lines::bucket_few))]
+fn words_of(cap: u16, level: u8) -> usize
+    ensures value { result ≡ whole_lines (cap + 2) + whole_lines (key_words level * cap) }
+    ensures bound { result < 2 ^ 20 }
+{
+    whole_lines(usize::from(cap) + 2) + whole_lines(key_words(level) * usize::from(cap))
+}
+
+// Where the buckets of the first levels end, for each number of levels.
+fn starts_of(buckets: &[u16; 11], cap: u16) -> [usize; 12]
     ensures ends { (levels : ℕ) → levels ≤ 11
-        → slice_index result levels ≡ first + sum_below levels
-        (λ level. cap * entry_words level * slice_index buckets.now level) }
+        → slice_index result levels ≡ first_bucket + sum_below levels
+        (λ level. (whole_lines (cap + 2) + whole_lines (key_words level * cap))
+        * slice_index buckets.now level) }
     ensures small { (levels : ℕ) → levels ≤ 11 → slice_index result levels < 2 ^ 40 }
 {
-    let mut ends = [first; 12];
+    let mut ends = [FIRST_BUCKET; 12];
     for level in 0..11 {
-        let words = usize::from(cap) * (key_words(level as u8) + 1);
+        let words = words_of(cap, level as u8);
         ends[level + 1] = ends[level] + words * usize::from(buckets[level]);
     }
     ends
