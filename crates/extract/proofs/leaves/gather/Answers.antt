@@ -1,7 +1,11 @@
 use Rattle.std.proofs.Common.{refl}
+use Rattle.measure.proofs.SubjectLaws.{some_set}
 use Rattle.measure.proofs.WideningLaws.{root_lies}
 use Rattle.extract.proofs.FillLaws.{layer_filled, all_zero}
 use Rattle.extract.proofs.leaves.gather.Goals as goal
+
+pub fill-requires-clause-block : goal.fill-requires-clause-block
+fill-requires-clause-block g c = some_set _ c.args.level c.args.block c.requires.block
 
 pub fill-requires-clause-inside : goal.fill-requires-clause-inside
 fill-requires-clause-inside g c = root_lies c.args.level c.requires.level

@@ -1,0 +1,15 @@
+use Rattle.std.proofs.Common.{refl}
+use Rattle.measure.proofs.FaceLaws.{some_bare}
+use Rattle.measure.proofs.WideningLaws.{root_lies}
+use Rattle.extract.proofs.FillLaws.{bare_filled}
+use Rattle.extract.proofs.leaves.gather_bare.Goals as goal
+
+pub fill-requires-clause-block : goal.fill-requires-clause-block
+fill-requires-clause-block g c = some_bare c.args.direction _ c.args.level c.args.block c.requires.block
+
+pub fill-requires-clause-inside : goal.fill-requires-clause-inside
+fill-requires-clause-inside g c = root_lies c.args.level c.requires.level
+
+pub returns-clause-layer : goal.returns-clause-layer
+returns-clause-layer g c =
+    bare_filled c.args.direction _ c.args.level _ c.args.z c.args.block c.args.b _ _ c.requires.b c.requires.ends c.requires.z refl c.requires.zeros c.fill.ensures.fills
