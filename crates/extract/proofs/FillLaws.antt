@@ -4,7 +4,7 @@ use Rattle.std.specs.Prelude.{◌==◌, slice_index, slice_set, replicate}
 use Rattle.std.specs.Int.{bit_at}
 use Rattle.std.proofs.lemmas.Bool.{cases_eq, cases_lt}
 use Rattle.std.proofs.lemmas.Nat.Bits.{bit_at-zero}
-use Rattle.std.proofs.lemmas.Nat.{mod_below, div_below, div-add-mod'}
+use Rattle.std.proofs.lemmas.Nat.{mod_below, div_below, div-add-mod', mul-le}
 use Rattle.std.proofs.lemmas.List.{get_or-set_same, get_or-set_other, get_or-replicate, get_or_past, length-replicate}
 use Rattle.vw_cell.specs.declared.cells.Cell.{Cell}
 use Rattle.vw_cell.specs.declared.boxes.Boxed.{Boxed}
@@ -348,6 +348,20 @@ all_zero m =
       | inl below ↦ get_or-replicate 4225 m 0 0 below
       | inr past ↦ get_or_past
           (replicate 4225 0) m 0 (omega (arith, past, length-replicate {A = ℕ} 4225 0))
+    ]
+
+-- the greatest layer
+pub few_leaves : (down along : ℕ) → down ≤ 65 → along ≤ 65 → down * along ≤ 4225
+few_leaves down along p q = mul-le down along 65 65 p q
+
+-- one more word is 0
+pub zeros_more : (old new : List ℕ) (k : ℕ) → new ≡ slice_set old k 0 → k < length old
+    → ((m : ℕ) → m < k → slice_index old m ≡ 0) → (m : ℕ) → m < k + 1 → slice_index new m ≡ 0
+zeros_more old new k e inside zeros m lt =
+    ap (λ (words : List ℕ). slice_index words m) e
+    ∙ elim (cases_eq m k) [
+      | inl same ↦ word_same old k m 0 inside same
+      | inr other ↦ get_or-set_other old k m 0 0 other ∙ zeros m (omega arith)
     ]
 
 -- a test isn't both

@@ -27,7 +27,7 @@ joined-same zero f g same = refl
 joined-same (suc n) f g same =
     rw (joined-same n f g (λ i lt. same i (omega arith)), same n (omega arith)) refl
 
-joined-add : (a b : ℕ) (f : ℕ → List Voxel)
+pub joined-add : (a b : ℕ) (f : ℕ → List Voxel)
     → voxels_joined (a + b) f ≡ voxels_joined a f ++ voxels_joined b (λ i. f (a + i))
 unfolding voxels_joined
 joined-add a zero f = rw add-zero (sym (append-nil (voxels_joined a f)))
@@ -108,7 +108,7 @@ room_run p r n f old mid fits room a =
     let piece = length-piece p r n f fits in omega (arith, piece, a.len, a.room)
 
 -- as many voxels as set cells
-length-joined : (n : ℕ) (f : ℕ → List Voxel)
+pub length-joined : (n : ℕ) (f : ℕ → List Voxel)
     → length (voxels_joined n f) ≡ sum_below n (λ i. length (f i))
 unfolding voxels_joined sum_below
 length-joined zero f = refl

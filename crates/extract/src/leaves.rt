@@ -42,8 +42,8 @@ pub fn gather<B: Blocks>(
     leaves
 }
 
-/// The same of the cells that are bare towards one direction, into words that are 0. What is found
-/// of whole blocks is remembered for further calls.
+/// The same of the cells that are bare towards one direction, into words that are there. What is
+/// found of whole blocks is remembered for further calls.
 pub(crate) fn gather_bare<B: Blocks>(
     store: &mut B,
     wholes: &mut Answers<WholeBlock<Bare>>,
@@ -61,7 +61,6 @@ pub(crate) fn gather_bare<B: Blocks>(
     requires z { z < b.size.z }
     requires wholes { AreRight
         (IsWholeTally passes_bare) (B.seen store.old).held wholes.old.places }
-    requires zeros { (m : ℕ) → m < leaves_in b → slice_index leaves.old m ≡ 0 }
     ensures layer { ForBlock (B.seen store.old).held level block
         (λ s. HoldsLayer leaves.new b ((b.at.z + z) / 4) (leaves_in b)
         (is_bare direction (block_side level) (cells_of level s))) }
@@ -78,7 +77,32 @@ pub(crate) fn gather_bare<B: Blocks>(
         block,
         beside: None,
     };
+    clear(leaves, b);
     fill(store, wholes, subject, place, b, (b.at.z + z) / 4, leaves);
+}
+
+// Makes the words of a layer of the box 0.
+fn clear(leaves: &mut [u64; 4225], b: Boxed)
+    requires b { IsSmallLayer b }
+    ensures zeros { (m : ℕ) → m < leaves_in b → slice_index leaves.new m ≡ 0 }
+{
+    let along = (b.at.x + b.size.x + 3) / 4 - b.at.x / 4;
+    let down = (b.at.y + b.size.y + 3) / 4 - b.at.y / 4;
+    let n = leaves_number(down, along);
+    for m in 0..n {
+        leaves[m] = 0;
+    }
+}
+
+// As many rows of as many leaves, of no more than the greatest layer has.
+#[tactic(auto, using(crate::proofs::FillLaws::few_leaves))]
+fn leaves_number(down: u16, along: u16) -> usize
+    requires down { down ≤ 65 }
+    requires along { along ≤ 65 }
+    ensures number { result ≡ down * along }
+    ensures few { result ≤ 4225 }
+{
+    usize::from(down) * usize::from(along)
 }
 
 // Reads the leaves of a layer of the box that lie in a block, of the cells that count. The words of

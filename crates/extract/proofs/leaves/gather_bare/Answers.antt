@@ -12,4 +12,4 @@ fill-requires-clause-inside g c = root_lies c.args.level c.requires.level
 
 pub returns-clause-layer : goal.returns-clause-layer
 returns-clause-layer g c =
-    bare_filled c.args.direction _ c.args.level _ c.args.z c.args.block c.args.b _ _ c.requires.b c.requires.ends c.requires.z refl c.requires.zeros c.fill.ensures.fills
+    bare_filled c.args.direction _ c.args.level _ c.args.z c.args.block c.args.b _ _ c.requires.b c.requires.ends c.requires.z refl c.clear.ensures.zeros c.fill.ensures.fills
