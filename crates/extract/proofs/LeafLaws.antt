@@ -80,6 +80,23 @@ run_shows words b z y p n m bits cells small ly fits leaf is inside word some he
     shows.each ((b.at.x + p) % 4 + i) ((b.at.y + y) % 4) ((b.at.z + z) % 4) (omega arith)
     (omega arith) (omega arith) ∙ ap cells place
 
+-- the same of one cell
+pub cell_shows : (words : List ℕ) (b : Boxed) (z y p m : ℕ) (cells : Cell → Bool)
+    → IsSmallLayer b → y < b.size.y → p < b.size.x
+    → m ≡ ((b.at.y + y) / 4 - b.at.y / 4) * leaves_along b + ((b.at.x + p) / 4 - b.at.x / 4)
+    → m < leaves_in b → HoldsLayer words b ((b.at.z + z) / 4) (leaves_in b) cells
+    → bits_show (slice_index words m)
+    (cell_at ((b.at.x + p) % 4) ((b.at.y + y) % 4) ((b.at.z + z) % 4))
+    ≡ cells (cell_at (b.at.x + p) (b.at.y + y) (b.at.z + z))
+cell_shows words b z y p m cells small ly lp is inside held =
+    let from : (b.at.x + p) % 4 ≡ (b.at.x + p) % 4 + 0 = omega arith in
+    let to : b.at.x + (p + 0) ≡ b.at.x + p = omega arith in
+    ap (λ (x : ℕ). bits_show (slice_index words m)
+    (cell_at x ((b.at.y + y) % 4) ((b.at.z + z) % 4))) from
+    ∙ run_shows words b z y p 1 m (slice_index words m) cells small ly (omega arith) (omega arith) is
+    inside refl (omega arith) held 0 (omega arith)
+    ∙ ap (λ (x : ℕ). cells (cell_at x (b.at.y + y) (b.at.z + z))) to
+
 pub run_is_row : (words : List ℕ) (b : Boxed) (z y p n m bits : ℕ) (cells : Cell → Bool)
     → IsSmallLayer b → y < b.size.y → p + n ≤ b.size.x → (b.at.x + p) % 4 + n ≤ 4
     → m ≡ ((b.at.y + y) / 4 - b.at.y / 4) * leaves_along b + ((b.at.x + p) / 4 - b.at.x / 4)

@@ -1,9 +1,11 @@
 -- Surfaces, cell by cell, leaf by leaf and layer by layer.
-use Rattle.std.proofs.Common.{◌≡◌, ◌≢◌, ℕ, zero, suc, ◌+◌, ◌-◌, ◌*◌, ◌/◌, ◌%◌, ◌^◌, ◌<◌, ◌≤◌, Bool, false, List, [], ◌∷◌, ◌++◌, length, take, Option, refl, sym, ap, subst, ◌∙◌, arith, append_assoc, append-nil}
-use Rattle.std.specs.Prelude.{◌==◌, slice_index}
-use Rattle.std.proofs.lemmas.List.{take_at}
+use Rattle.std.proofs.Common.{◌≡◌, ◌≢◌, ℕ, zero, suc, ◌+◌, ◌-◌, ◌*◌, ◌/◌, ◌%◌, ◌^◌, ◌<◌, ◌≤◌, max, Bool, false, List, [], ◌∷◌, ◌++◌, length, take, Option, refl, sym, ap, subst, ◌∙◌, arith, inl, inr, append_assoc, append-nil}
+use Rattle.std.specs.Prelude.{◌==◌, bit_or, slice_index, slice_set}
+use Rattle.std.specs.Int.{bit_at}
+use Rattle.std.proofs.lemmas.Bool.{cases_eq}
+use Rattle.std.proofs.lemmas.List.{take_at, get_or-set_same, get_or-set_other}
 use Rattle.std.proofs.lemmas.Nat.{mul-le}
-use Rattle.std.proofs.lemmas.Nat.Bits.{bit_at-zero}
+use Rattle.std.proofs.lemmas.Nat.Bits.{bit_at-zero, bit_at-lt, bit_at_or}
 use Rattle.std.specs.declared.vec.Vec.{Vec}
 use Rattle.vw_cell.specs.declared.cells.Cell.{Cell}
 use Rattle.vw_cell.specs.declared.boxes.Boxed.{Boxed}
@@ -21,11 +23,12 @@ use Rattle.node_words.proofs.OfDescent.LookLaws.{root_side}
 use Rattle.extract.specs.Listing.{voxels_joined}
 use Rattle.extract.specs.Layers.{HasRoom, AppendsVoxels, HoldsLayer, IsSmallLayer, bits_show, leaves_along, leaves_in}
 use Rattle.extract.specs.Surface.{sides_number, bare_sides_of, voxel_of_sides, row_of_sides, layer_of_sides, surface_of_box}
-use Rattle.extract.specs.BareLayers.{HoldsBare, IsBlank, IsLeafOf, leaf_sides, run_of_sides}
+use Rattle.extract.specs.BareLayers.{HoldsBare, HoldsSlab, CountsBlank, CountsFrom, IsAny, IsBlank, leaf_at, leaf_sides, part_of_row, run_of_sides}
 use Rattle.extract.specs.declared.bare_layers.BareLayer.{BareLayer}
 use Rattle.extract.specs.declared.bare_layers.BareLeaf.{BareLeaf}
-use Rattle.extract.proofs.LeafLaws.{run_shows}
-use Rattle.extract.proofs.ListingLaws.{joined-zero, joined-same, joined-add, length-joined, appends_none, no_voxels}
+use Rattle.extract.specs.declared.bare_layers.Slab.{Slab}
+use Rattle.extract.proofs.LeafLaws.{run_shows, cell_shows, run_inside}
+use Rattle.extract.proofs.ListingLaws.{joined-zero, joined-same, joined-add, length-joined, length-more, appends_none, none_below}
 
 pub few_cells : (n y x : ℕ) → n ≤ 256 → y ≤ 256 → x ≤ 256 → n * (y * x) < 2 ^ 64
 few_cells n y x p q r =
@@ -62,54 +65,117 @@ sides_same : (a b c d e f a' b' c' d' e' f' : Bool) → a ≡ a' → b ≡ b' �
 sides_same a b c d e f a' b' c' d' e' f' p q r s t u = rw (p, q, r, s, t, u) refl
 
 -- a run of a row lies in one leaf
-pub run_is_surface : (words : BareLayer) (leaf : BareLeaf) (b : Boxed) (z y p n m side : ℕ)
-    (cells : Cell → Bool)
+pub run_is_surface : (words : BareLayer) (b : Boxed) (z y p n m side : ℕ) (cells : Cell → Bool)
     → IsSmallLayer b → y < b.size.y → p + n ≤ b.size.x → (b.at.x + p) % 4 + n ≤ 4
     → m ≡ ((b.at.y + y) / 4 - b.at.y / 4) * leaves_along b + ((b.at.x + p) / 4 - b.at.x / 4)
-    → m < leaves_in b → IsLeafOf words m leaf → 1 ≤ n
-    → HoldsBare words b ((b.at.z + z) / 4) side cells
-    → run_of_sides leaf
+    → m < leaves_in b → 1 ≤ n → HoldsBare words b ((b.at.z + z) / 4) side cells
+    → run_of_sides (leaf_at words m)
     (cell_at ((b.at.x + p) % 4) ((b.at.y + y) % 4) ((b.at.z + z) % 4)) n (cell_at p y z)
-    ≡ voxels_joined n
-    (λ i. voxel_of_sides
-    (bare_sides_of side cells (cell_at (b.at.x + (p + i)) (b.at.y + y) (b.at.z + z)))
-    (p + i) y z)
-run_is_surface words leaf b z y p n m side cells small ly fits near is inside of some held =
+    ≡ part_of_row (bare_sides_of side cells) b z y p n
+run_is_surface words b z y p n m side cells small ly fits near is inside some held =
     let shows =
-    λ (ws : List ℕ) (bits : ℕ) (test : Cell → Bool)
-    (word : bits ≡ slice_index ws m)
+    λ (ws : List ℕ) (test : Cell → Bool)
     (h : HoldsLayer ws b ((b.at.z + z) / 4) (leaves_in b) test)
     (i : ℕ) (lt : i < n).
-    run_shows ws b z y p n m bits test small ly fits near is inside word some h i lt in
+    run_shows ws b z y p n m (slice_index ws m) test small ly fits near is inside refl some h i lt in
     joined-same n _ _ (λ i lt.
     ap (λ (s : ℕ). voxel_of_sides s (p + i) y z)
     (sides_same _ _ _ _ _ _ _ _ _ _ _ _
-    (shows words.low_x leaf.low_x (is_bare LowX side cells) of.low_x held.low_x i lt)
-    (shows words.high_x leaf.high_x (is_bare HighX side cells) of.high_x held.high_x i lt)
-    (shows words.low_y leaf.low_y (is_bare LowY side cells) of.low_y held.low_y i lt)
-    (shows words.high_y leaf.high_y (is_bare HighY side cells) of.high_y held.high_y i lt)
-    (shows words.low_z leaf.low_z (is_bare LowZ side cells) of.low_z held.low_z i lt)
-    (shows words.high_z leaf.high_z (is_bare HighZ side cells) of.high_z held.high_z i lt)))
+    (shows words.low_x (is_bare LowX side cells) held.low_x i lt)
+    (shows words.high_x (is_bare HighX side cells) held.high_x i lt)
+    (shows words.low_y (is_bare LowY side cells) held.low_y i lt)
+    (shows words.high_y (is_bare HighY side cells) held.high_y i lt)
+    (shows words.low_z (is_bare LowZ side cells) held.low_z i lt)
+    (shows words.high_z (is_bare HighZ side cells) held.high_z i lt)))
 
--- a leaf of which no cell is bare
-no_bit : (bits : ℕ) (c : Cell) → bits ≡ 0 → bits_show bits c ≡ false
-no_bit bits c e =
-    ap (λ (w : ℕ). bits_show w c) e
-    ∙ ap (λ (bit : ℕ). bit == 1) (bit_at-zero (bit_number c.x c.y c.z))
+-- the bare sides of a cell of a row are those that its leaf tells
+cell_is_told : (words : BareLayer) (b : Boxed) (z y p m side : ℕ) (cells : Cell → Bool)
+    → IsSmallLayer b → y < b.size.y → p < b.size.x
+    → m ≡ ((b.at.y + y) / 4 - b.at.y / 4) * leaves_along b + ((b.at.x + p) / 4 - b.at.x / 4)
+    → m < leaves_in b → HoldsBare words b ((b.at.z + z) / 4) side cells
+    → leaf_sides (leaf_at words m)
+    (cell_at ((b.at.x + p) % 4) ((b.at.y + y) % 4) ((b.at.z + z) % 4))
+    ≡ bare_sides_of side cells (cell_at (b.at.x + p) (b.at.y + y) (b.at.z + z))
+cell_is_told words b z y p m side cells small ly lp is inside held =
+    let shows =
+    λ (ws : List ℕ) (test : Cell → Bool)
+    (h : HoldsLayer ws b ((b.at.z + z) / 4) (leaves_in b) test).
+    cell_shows ws b z y p m test small ly lp is inside h in
+    sides_same _ _ _ _ _ _ _ _ _ _ _ _
+    (shows words.low_x (is_bare LowX side cells) held.low_x)
+    (shows words.high_x (is_bare HighX side cells) held.high_x)
+    (shows words.low_y (is_bare LowY side cells) held.low_y)
+    (shows words.high_y (is_bare HighY side cells) held.high_y)
+    (shows words.low_z (is_bare LowZ side cells) held.low_z)
+    (shows words.high_z (is_bare HighZ side cells) held.high_z)
 
-blank_sides : (leaf : BareLeaf) (c : Cell) → IsBlank leaf → leaf_sides leaf c ≡ 0
-blank_sides leaf c h =
-    sides_same _ _ _ _ _ _ false false false false false false (no_bit leaf.low_x c h.low_x)
-    (no_bit leaf.high_x c h.high_x) (no_bit leaf.low_y c h.low_y) (no_bit leaf.high_y c h.high_y)
-    (no_bit leaf.low_z c h.low_z) (no_bit leaf.high_z c h.high_z)
+-- cells of leaves without a bare side
+pub blank_part : (slab : Slab) (b : Boxed) (z y p n m row side : ℕ) (cells : Cell → Bool)
+    → IsSmallLayer b → y < b.size.y → p + n ≤ b.size.x
+    → row ≡ ((b.at.y + y) / 4 - b.at.y / 4) * leaves_along b
+    → row + leaves_along b ≤ leaves_in b → m ≡ row + ((b.at.x + p) / 4 - b.at.x / 4)
+    → (b.at.x + p) % 4 + n ≤ 4 * slice_index slab.blanks m
+    → HoldsSlab slab b ((b.at.z + z) / 4) side cells
+    → part_of_row (bare_sides_of side cells) b z y p n ≡ []
+blank_part slab b z y p n m row side cells small ly fits start ends at blank held =
+    none_below n _ (λ i lt.
+    let q : ℕ = p + i in
+    let w : ℕ = ((b.at.x + p) % 4 + i) / 4 in
+    let lq : q < b.size.x = omega (arith, fits, lt) in
+    let lp : p < b.size.x = omega (arith, fits, lt) in
+    let step : m + w ≡ row + ((b.at.x + q) / 4 - b.at.x / 4) = omega (arith, at) in
+    let here : m < leaves_in b = run_inside b y p row m small ly lp ends at in
+    let there : m + w < leaves_in b = run_inside b y q row (m + w) small ly lq ends step in
+    let is : m + w ≡ ((b.at.y + y) / 4 - b.at.y / 4) * leaves_along b + ((b.at.x + q) / 4 - b.at.x / 4) =
+    step ∙ ap (λ (r : ℕ). r + ((b.at.x + q) / 4 - b.at.x / 4)) start in
+    let near : w < slice_index slab.blanks m = omega (arith, blank, lt) in
+    let none = (held.blank.each m w here near).each
+    (cell_at ((b.at.x + q) % 4) ((b.at.y + y) % 4) ((b.at.z + z) % 4)) in
+    let told = cell_is_told slab.words b z y q (m + w) side cells small ly lq is there held.bare in
+    ap (λ (s : ℕ). voxel_of_sides s q y z) (sym told ∙ none))
 
-pub blank_run : {Z : Type 0} (leaf : BareLeaf) (at to : Cell) (n : ℕ) (v : Vec Voxel Z)
-    → IsBlank leaf → AppendsVoxels (run_of_sides leaf at n to) v v
-blank_run leaf at to n v h =
-    let none : run_of_sides leaf at n to ≡ [] =
-    no_voxels n _ (λ p. ap (λ (s : ℕ). voxel_of_sides s (to.x + p) to.y to.z)
-    (blank_sides leaf (cell_at (at.x + p) at.y at.z) h)) in
-    subst (λ (xs : List Voxel). AppendsVoxels xs v v) (sym none) (appends_none v)
+pub blank_appends : {Z : Type 0} (v : Vec Voxel Z) (xs : List Voxel) → xs ≡ []
+    → AppendsVoxels xs v v
+blank_appends v xs e = subst (λ (ys : List Voxel). AppendsVoxels ys v v) (sym e) (appends_none v)
+
+-- the cells of a leaf that have a bare side
+max_unset : (x y : ℕ) → x < 2 → y < 2 → (max x y == 1) ≡ false
+    → ((x == 1) ≡ false) × ((y == 1) ≡ false)
+max_unset zero zero p q e = (refl, refl)
+max_unset zero (suc zero) p q e = cc
+max_unset (suc zero) zero p q e = cc
+max_unset (suc zero) (suc zero) p q e = cc
+max_unset (suc (suc x)) y p q e = absurd (omega arith)
+max_unset x (suc (suc y)) p q e = absurd (omega arith)
+
+or_unset : (a b : ℕ) (c : Cell) → bits_show (bit_or a b) c ≡ false
+    → (bits_show a c ≡ false) × (bits_show b c ≡ false)
+or_unset a b c e =
+    let k : ℕ = bit_number c.x c.y c.z in
+    max_unset (bit_at a k) (bit_at b k) (bit_at-lt a k) (bit_at-lt b k)
+    (sym (ap (λ (n : ℕ). n == 1) (bit_at_or a b k)) ∙ e)
+
+pub any_is : (leaf : BareLeaf)
+    → IsAny leaf
+    (bit_or (bit_or (bit_or leaf.low_x leaf.high_x) (bit_or leaf.low_y leaf.high_y))
+    (bit_or leaf.low_z leaf.high_z))
+any_is leaf = record {
+  unset = λ c e.
+      let xy_z = or_unset (bit_or (bit_or leaf.low_x leaf.high_x) (bit_or leaf.low_y leaf.high_y))
+      (bit_or leaf.low_z leaf.high_z) c e in
+      let x_y = or_unset (bit_or leaf.low_x leaf.high_x) (bit_or leaf.low_y leaf.high_y) c xy_z.0 in
+      let x = or_unset leaf.low_x leaf.high_x c x_y.0 in
+      let y = or_unset leaf.low_y leaf.high_y c x_y.1 in
+      let z = or_unset leaf.low_z leaf.high_z c xy_z.1 in
+      sides_same _ _ _ _ _ _ false false false false false false x.0 x.1 y.0 y.1 z.0 z.1;
+}
+
+pub no_any : (leaf : BareLeaf) (any : ℕ) → IsAny leaf any → any ≡ 0 → IsBlank leaf
+no_any leaf any h e = record {
+  each = λ c. h.unset c
+      (ap (λ (w : ℕ). bits_show w c) e
+      ∙ ap (λ (bit : ℕ). bit == 1) (bit_at-zero (bit_number c.x c.y c.z)));
+}
 
 -- a cell without a bare side, and one with some
 pub no_sides : {Z : Type 0} (n x y z : ℕ) (v : Vec Voxel Z) → n ≡ 0
@@ -121,6 +187,54 @@ pub some_sides : (n x y z : ℕ) → n ≢ 0
     → voxel_of_sides n x y z ≡ record { x = x; y = y; z = z; colour = n } ∷ []
 some_sides zero x y z h = absurd (h refl)
 some_sides (suc n) x y z h = refl
+
+pub unset_cell : {Z : Type 0} (leaf : BareLeaf) (any x y z : ℕ) (c : Cell) (set : Bool)
+    (v : Vec Voxel Z) → IsAny leaf any → set ≡ bits_show any c → set ≡ false
+    → AppendsVoxels (voxel_of_sides (leaf_sides leaf c) x y z) v v
+unset_cell leaf any x y z c set v h told e = no_sides _ x y z v (h.unset c (sym told ∙ e))
+
+-- how many leaves from one on are blank
+pub counts_none : (words : BareLayer) (blanks : List ℕ) (n : ℕ) → CountsFrom words blanks n n 0
+counts_none words blanks n = record {
+  each = λ j i from below lt. absurd (omega (arith, from, below));
+  here = λ i lt. absurd (omega (arith, lt));
+}
+
+counted_here : (words : BareLayer) (m run more i : ℕ) → more ≤ run + 1
+    → (1 ≤ more → IsBlank (leaf_at words m))
+    → ((k : ℕ) → k < run → IsBlank (leaf_at words (m + 1 + k))) → i < more
+    → IsBlank (leaf_at words (m + i))
+counted_here words m run more zero within blank rest lt =
+    let same : m ≡ m + 0 = omega arith in
+    subst (λ (k : ℕ). IsBlank (leaf_at words k)) same (blank (omega arith))
+counted_here words m run more (suc i) within blank rest lt =
+    let same : m + 1 + i ≡ m + suc i = omega arith in
+    subst (λ (k : ℕ). IsBlank (leaf_at words k)) same (rest i (omega arith))
+
+pub counts_more : (words : BareLayer) (blanks : List ℕ) (n m run more : ℕ) → m < length blanks
+    → more ≤ run + 1 → (1 ≤ more → IsBlank (leaf_at words m))
+    → CountsFrom words blanks n (m + 1) run
+    → CountsFrom words (slice_set blanks m more) n m more
+counts_more words blanks n m run more inside within blank counts =
+    let here = λ (i : ℕ) (lt : i < more). counted_here words m run more i within blank counts.here lt in
+    record {
+      each = λ j i from below lt. elim (cases_eq j m) [
+        | inl same ↦
+            let told : slice_index (slice_set blanks m more) j ≡ more =
+            ap (slice_index (slice_set blanks m more)) same ∙ get_or-set_same blanks m more 0 inside in
+            subst (λ (k : ℕ). IsBlank (leaf_at words (k + i))) (sym same) (here i (omega (arith, told, lt)))
+        | inr other ↦
+            let told : slice_index (slice_set blanks m more) j ≡ slice_index blanks j =
+            get_or-set_other blanks m j more 0 other in
+            counts.each j i (omega (arith, from, other)) below (omega (arith, told, lt))
+      ];
+      here = here;
+    }
+
+pub counts_all : (words : BareLayer) (blanks : List ℕ) (n m run : ℕ) → m ≡ 0
+    → CountsFrom words blanks n m run → CountsBlank words blanks n
+counts_all words blanks n m run e counts =
+    record { each = λ j i below lt. counts.each j i (omega (arith, e)) below lt }
 
 -- one layer of leaves more
 pub slab_more : (z n : ℕ) (f : ℕ → List Voxel) (old mid new : List Voxel)
@@ -152,3 +266,11 @@ world_surface held level side root name b old new e h n told t o =
 -- no layer yet
 pub slab_none : (f : ℕ → List Voxel) (old : List Voxel) → old ≡ old ++ voxels_joined 0 f
 slab_none f old = sym (ap (λ (xs : List Voxel). old ++ xs) (joined-zero f) ∙ append-nil old)
+
+-- room for what is left of a row is room for its first cells
+pub room_part : {Z : Type 0} (sides : Cell → ℕ) (b : Boxed) (z y p n left : ℕ) (v : Vec Voxel Z)
+    → n ≤ left → HasRoom v (length (part_of_row sides b z y p left))
+    → HasRoom v (length (part_of_row sides b z y p n))
+room_part sides b z y p n left v h room =
+    let more = length-more n left (λ i. voxel_of_sides (sides (cell_at (b.at.x + (p + i)) (b.at.y + y) (b.at.z + z))) (p + i) y z) h in
+    omega (arith, more, room)

@@ -86,12 +86,20 @@ fn clear(leaves: &mut [u64; 4225], b: Boxed)
     requires b { IsSmallLayer b }
     ensures zeros { (m : ℕ) → m < leaves_in b → slice_index leaves.new m ≡ 0 }
 {
-    let along = (b.at.x + b.size.x + 3) / 4 - b.at.x / 4;
-    let down = (b.at.y + b.size.y + 3) / 4 - b.at.y / 4;
-    let n = leaves_number(down, along);
-    for m in 0..n {
+    for m in 0..leaves_of(b) {
         leaves[m] = 0;
     }
+}
+
+/// How many leaves a layer of the box has.
+pub(crate) fn leaves_of(b: Boxed) -> usize
+    requires b { IsSmallLayer b }
+    ensures number { result ≡ leaves_in b }
+    ensures few { result ≤ 4225 }
+{
+    let along = (b.at.x + b.size.x + 3) / 4 - b.at.x / 4;
+    let down = (b.at.y + b.size.y + 3) / 4 - b.at.y / 4;
+    leaves_number(down, along)
 }
 
 // As many rows of as many leaves, of no more than the greatest layer has.

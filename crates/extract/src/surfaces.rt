@@ -1,20 +1,20 @@
-ghost use Rattle.std.specs.Prelude.{◌≡◌, ℕ, ◌+◌, ◌*◌, ◌/◌, ◌%◌, ◌<◌, ◌≤◌, ◌^◌, ◌++◌, take, length, Bool, OnOk, OnErr, option_copied};
+ghost use Rattle.std.specs.Prelude.{◌≡◌, ℕ, ◌+◌, ◌-◌, ◌*◌, ◌/◌, ◌<◌, ◌≤◌, ◌^◌, ◌++◌, take, length, Bool, OnOk, OnErr, option_copied};
 ghost use Rattle.vw_cell.specs.declared.cells.Cell.{Cell};
-ghost use Rattle.vw_cell.specs.Places.{FitsAt, block_side};
+ghost use Rattle.vw_cell.specs.Places.{FitsAt, IsInWorld, block_side};
 ghost use Rattle.node_words.specs.descent.Answers.{AreRight};
 ghost use Rattle.node_words.specs.descent.Parts.{EndsBy};
 ghost use Rattle.node_words.specs.descent.Roots.{HasBlock, HoldsRoot, ForBlock, ForWorld, cells_of};
 ghost use Rattle.measure.specs.Faces.{passes_bare};
 ghost use Rattle.measure.specs.Tallies.{IsWholeTally};
 ghost use Rattle.extract.specs.Listing.{voxels_joined};
-ghost use Rattle.extract.specs.Layers.{IsRow, IsSmallLayer, HasRoom, AppendsVoxels};
+ghost use Rattle.extract.specs.Layers.{IsRow, IsSmallLayer, HasRoom, AppendsVoxels, leaves_along, leaves_in};
 ghost use Rattle.extract.specs.Surface.{bare_sides_of, layer_of_sides, row_of_sides, surface_of_box, voxel_of_sides};
-ghost use Rattle.extract.specs.BareLayers.{HoldsBare, run_of_sides};
+ghost use Rattle.extract.specs.BareLayers.{HoldsSlab, IsAny, leaf_sides, part_of_row, run_of_sides};
 
-use crate::bare_layers::{BareLayer, BareLeaf, gather_sides, is_blank, leaf_of, sides_at};
+use crate::bare_layers::{BareLeaf, Slab, any_of, gather_slab, leaf_of, sides_at};
 use crate::rows::{row_start, run_length};
 use measure::{Bare, WholeBlock};
-use node_words::{Answers, Blocks, Name, Share, name_of};
+use node_words::{Answers, Blocks, Name, Share, leaf_has, name_of};
 use vox_read::Voxel;
 use vw_cell::{Boxed, Cell, Memory, Side};
 
@@ -67,11 +67,11 @@ fn slabs_in<B: Blocks>(
     ensures rests { B.rests store.old store.new }
 {
     let mut wholes = Answers::new();
-    let mut words = BareLayer::new();
+    let mut slab = Slab::new();
     let mut z = 0;
     while z < b.size.z {
         let n = run_length(b.at.z + z, b.size.z - z);
-        if !slab_in(store, &mut wholes, level, block, b, z, n, &mut words, into) {
+        if !slab_in(store, &mut wholes, level, block, b, z, n, &mut slab, into) {
             return false;
         }
         z += n;
@@ -89,7 +89,7 @@ fn slab_in<B: Blocks>(
     b: Boxed,
     z: u16,
     n: u16,
-    words: &mut BareLayer,
+    slab: &mut Slab,
     into: &mut Vec<Voxel>,
 ) -> bool
     requires level { level ≤ 10 }
@@ -115,8 +115,8 @@ fn slab_in<B: Blocks>(
     if into.reserve(most).is_err() {
         return false;
     }
-    gather_sides(store, wholes, level, block, b, z, words);
-    layers_in_room(words, b, z, n, into);
+    gather_slab(store, wholes, level, block, b, z, slab);
+    layers_in_room(slab, b, z, n, into);
     true
 }
 
@@ -135,70 +135,118 @@ fn most_cells(n: u16, size: Cell) -> usize
 }
 
 // Appends some layers of a box, which lie in one layer of leaves.
-fn layers_in_room(words: &BareLayer, b: Boxed, z: u16, n: u16, into: &mut Vec<Voxel>)
+fn layers_in_room(slab: &Slab, b: Boxed, z: u16, n: u16, into: &mut Vec<Voxel>)
     requires b { IsSmallLayer b }
     requires z { z + n ≤ b.size.z }
     requires layer { (k : ℕ) → k < n → (b.at.z + (z + k)) / 4 ≡ (b.at.z + z) / 4 }
     requires room { (side : ℕ) × (cells : Cell → Bool)
-        × HoldsBare words.now b ((b.at.z + z) / 4) side cells
+        × HoldsSlab slab.now b ((b.at.z + z) / 4) side cells
         × HasRoom into.old
         (length (voxels_joined n (λ k. layer_of_sides (bare_sides_of side cells) b (z + k)))) }
     ensures appended { (side : ℕ) (cells : Cell → Bool)
-        → HoldsBare words.now b ((b.at.z + z) / 4) side cells
+        → HoldsSlab slab.now b ((b.at.z + z) / 4) side cells
         → AppendsVoxels
         (voxels_joined n (λ k. layer_of_sides (bare_sides_of side cells) b (z + k)))
         into.old into.new }
 {
     for k in 0..n {
-        layer_in_room(words, b, z + k, into);
+        layer_in_room(slab, b, z + k, into);
     }
 }
 
 // Appends one layer of a box.
-fn layer_in_room(words: &BareLayer, b: Boxed, z: u16, into: &mut Vec<Voxel>)
+fn layer_in_room(slab: &Slab, b: Boxed, z: u16, into: &mut Vec<Voxel>)
     requires b { IsSmallLayer b }
     requires z { z < b.size.z }
     requires room { (side : ℕ) × (cells : Cell → Bool)
-        × HoldsBare words.now b ((b.at.z + z) / 4) side cells
+        × HoldsSlab slab.now b ((b.at.z + z) / 4) side cells
         × HasRoom into.old (length (layer_of_sides (bare_sides_of side cells) b z)) }
     ensures appended { (side : ℕ) (cells : Cell → Bool)
-        → HoldsBare words.now b ((b.at.z + z) / 4) side cells
+        → HoldsSlab slab.now b ((b.at.z + z) / 4) side cells
         → AppendsVoxels (layer_of_sides (bare_sides_of side cells) b z) into.old into.new }
 {
     for y in 0..b.size.y {
-        row_in_room(words, b, z, y, into);
+        row_in_room(slab, b, z, y, into);
     }
 }
 
 // Appends one row of a box, leaf by leaf.
-fn row_in_room(words: &BareLayer, b: Boxed, z: u16, y: u16, into: &mut Vec<Voxel>)
+fn row_in_room(slab: &Slab, b: Boxed, z: u16, y: u16, into: &mut Vec<Voxel>)
     requires b { IsSmallLayer b }
     requires z { z < b.size.z }
     requires y { y < b.size.y }
     requires room { (side : ℕ) × (cells : Cell → Bool)
-        × HoldsBare words.now b ((b.at.z + z) / 4) side cells
+        × HoldsSlab slab.now b ((b.at.z + z) / 4) side cells
         × HasRoom into.old (length (row_of_sides (bare_sides_of side cells) b z y b.size.x)) }
     ensures appended { (side : ℕ) (cells : Cell → Bool)
-        → HoldsBare words.now b ((b.at.z + z) / 4) side cells
+        → HoldsSlab slab.now b ((b.at.z + z) / 4) side cells
         → AppendsVoxels (row_of_sides (bare_sides_of side cells) b z y b.size.x)
         into.old into.new }
 {
     let row = row_start(b, y);
-    let at_y = (b.at.y + y) % 4;
-    let at_z = (b.at.z + z) % 4;
     let mut p = 0;
     while p < b.size.x {
-        let x = b.at.x + p;
-        let leaf = leaf_of(words, row + usize::from(x / 4 - b.at.x / 4));
-        let n = run_length(x, b.size.x - p);
-        let at = Cell {
-            x: x % 4,
-            y: at_y,
-            z: at_z,
-        };
-        run_in_room(leaf, at, n, Cell { x: p, y, z }, into);
-        p += n;
+        p += step_in_room(slab, b, z, y, row, p, into);
     }
+}
+
+// Appends those of the next cells of a row that lie in one leaf, or passes over leaves without a
+// bare side. It answers how many cells these are.
+fn step_in_room(
+    slab: &Slab,
+    b: Boxed,
+    z: u16,
+    y: u16,
+    row: usize,
+    p: u16,
+    into: &mut Vec<Voxel>,
+) -> u16
+    requires b { IsSmallLayer b }
+    requires z { z < b.size.z }
+    requires y { y < b.size.y }
+    requires p { p < b.size.x }
+    requires row { row ≡ ((b.at.y + y) / 4 - b.at.y / 4) * leaves_along b }
+    requires inside { row + leaves_along b ≤ leaves_in b }
+    requires few { leaves_in b ≤ 4225 }
+    requires room { (side : ℕ) × (cells : Cell → Bool)
+        × HoldsSlab slab.now b ((b.at.z + z) / 4) side cells
+        × HasRoom into.old (length (part_of_row (bare_sides_of side cells) b z y p (b.size.x - p))) }
+    ensures some { 1 ≤ result }
+    ensures within { p + result ≤ b.size.x }
+    ensures appended { (side : ℕ) (cells : Cell → Bool)
+        → HoldsSlab slab.now b ((b.at.z + z) / 4) side cells
+        → AppendsVoxels (part_of_row (bare_sides_of side cells) b z y p result)
+        into.old into.new }
+{
+    let x = b.at.x + p;
+    let m = row + usize::from(x / 4 - b.at.x / 4);
+    let left = b.size.x - p;
+    let blank = slab.blanks[m];
+    if blank > 0 {
+        return blank_cells(blank, x % 4, left);
+    }
+    let n = run_length(x, left);
+    let leaf = leaf_of(&slab.words, m);
+    let at = Cell {
+        x: x % 4,
+        y: (b.at.y + y) % 4,
+        z: (b.at.z + z) % 4,
+    };
+    run_in_room(leaf, at, n, Cell { x: p, y, z }, into);
+    n
+}
+
+// How many of the next cells lie in so many leaves, of the first of which the cells from one on are
+// left.
+fn blank_cells(blank: u8, from: u16, left: u16) -> u16
+    requires blank { 1 ≤ blank }
+    requires from { from < 4 }
+    requires left { 1 ≤ left }
+    ensures some { 1 ≤ result }
+    ensures within { result ≤ left }
+    ensures leaves { from + result ≤ 4 * blank }
+{
+    (4 * u16::from(blank) - from).min(left)
 }
 
 // Appends the cells of a row of a leaf that have bare sides.
@@ -208,14 +256,27 @@ fn run_in_room(leaf: BareLeaf, at: Cell, n: u16, to: Cell, into: &mut Vec<Voxel>
     requires room { HasRoom into.old (length (run_of_sides leaf at n to)) }
     ensures { AppendsVoxels (run_of_sides leaf at n to) into.old into.new }
 {
-    if is_blank(leaf) {
-        return;
-    }
+    let any = any_of(leaf);
     for p in 0..n {
         let c = Cell { x: at.x + p, ..at };
-        let sides = sides_at(leaf, c);
-        push_sides(sides, Cell { x: to.x + p, ..to }, into);
+        cell_in_room(leaf, any, c, Cell { x: to.x + p, ..to }, into);
     }
+}
+
+// Appends one cell, if it has a bare side.
+#[inline(always)]
+fn cell_in_room(leaf: BareLeaf, any: u64, c: Cell, to: Cell, into: &mut Vec<Voxel>)
+    requires any { IsAny leaf any }
+    requires c { IsInWorld 4 c }
+    requires to { (to.x < 256) × (to.y < 256) × (to.z < 256) }
+    requires room { HasRoom into.old (length (voxel_of_sides (leaf_sides leaf c) to.x to.y to.z)) }
+    ensures { AppendsVoxels (voxel_of_sides (leaf_sides leaf c) to.x to.y to.z) into.old into.new }
+{
+    if !leaf_has(any, c) {
+        return;
+    }
+    let sides = sides_at(leaf, c);
+    push_sides(sides, to, into);
 }
 
 // Appends a voxel where a side is bare.

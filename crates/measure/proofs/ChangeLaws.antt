@@ -157,9 +157,13 @@ pub all_changed : (a b : Seen) (level : ℕ) (before after : Option Name) (new :
 all_changed a b level before after new e none extent t o u p =
     let clear = clear_block a.held level t
     (subst (λ (n : Option Name). IsBlockOf a.held level n t) none o) in
-    let same : cells_of level (shape_of u) ≡ differs (cells_of level (shape_of t)) (cells_of level (shape_of u)) =
-    λ i c. sym (ap (λ (v : Bool). is_other v (cells_of level (shape_of u) c))
-    (ap (λ (s : Shape). cells_of level s c) clear ∙ has-clear level c.x c.y c.z)) i in
+    let each : (c : Cell) → cells_of level (shape_of u) c
+    ≡ differs (cells_of level (shape_of t)) (cells_of level (shape_of u)) c =
+    λ c. sym (ap (λ (v : Bool). is_other v (cells_of level (shape_of u) c))
+    (ap (λ (s : Shape). cells_of level s c) clear ∙ has-clear level c.x c.y c.z)) in
+    let same : cells_of level (shape_of u)
+    ≡ differs (cells_of level (shape_of t)) (cells_of level (shape_of u)) =
+    λ i c. each c i in
     subst (λ (cells : Cell → Bool). IsExtent (block_side level) cells new) same
     (extent u (block_still a b level after u e p))
 

@@ -2,7 +2,7 @@ use Rattle.std.proofs.Common.{◌≡◌, ◌+◌, ℕ, arith, sym, subst}
 use Rattle.extract.specs.Listing.{voxels_joined}
 use Rattle.extract.specs.Layers.{AppendsVoxels}
 use Rattle.extract.specs.Surface.{bare_sides_of, layer_of_sides}
-use Rattle.extract.specs.BareLayers.{HoldsBare}
+use Rattle.extract.specs.BareLayers.{HoldsSlab}
 use Rattle.extract.proofs.ListingLaws.{none_joined, appends_one, room_one}
 use Rattle.extract.proofs.surfaces.layers_in_room.Goals as goal
 
@@ -16,7 +16,7 @@ layer_in_room-requires-clause-room c =
     let held = c.requires.room.2 in (
       side,
       cells,
-      subst (λ (q : ℕ). HoldsBare c.args.words.now c.args.b q side cells)
+      subst (λ (q : ℕ). HoldsSlab c.args.slab.now c.args.b q side cells)
           (sym (c.requires.layer c.loop-k.k c.loop-k-test.true)) held,
       room_one c.loop-k.k c.args.n
           (λ k. layer_of_sides (bare_sides_of side cells) c.args.b
@@ -31,7 +31,7 @@ loop-k-preserved c = record {
       (c.args.z + k)) c.args.into.now c.loop-k.into c.layer_in_room.new.into
       (c.loop-k.invariant.appended side cells held)
       (c.layer_in_room.ensures.appended side cells
-      (subst (λ (q : ℕ). HoldsBare c.args.words.now c.args.b q side cells)
+      (subst (λ (q : ℕ). HoldsSlab c.args.slab.now c.args.b q side cells)
       (sym (c.requires.layer c.loop-k.k c.loop-k-test.true)) held));
 }
 

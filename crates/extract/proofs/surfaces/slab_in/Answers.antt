@@ -15,6 +15,6 @@ layers_in_room-requires-clause-room g c =
     let most = layers_bound (bare_sides_of side cells) c.args.b c.args.z c.args.n in (
       side,
       cells,
-      c.gather_sides.ensures.layer t o,
+      c.gather_slab.ensures.layer t o,
       omega (arith, most, c.most_cells-most.ensures, c.reserve.ensures.ok),
     )
