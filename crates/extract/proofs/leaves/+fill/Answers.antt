@@ -1,4 +1,4 @@
-use Rattle.std.proofs.Common.{◌∙◌, arith, refl, sym, subst}
+use Rattle.std.proofs.Common.{◌∙◌, arith, refl, rules, sym, subst}
 use Rattle.vw_cell.specs.declared.blocks.Block.{Block}
 use Rattle.measure.proofs.WholeLaws.{whole_right_before}
 use Rattle.measure.proofs.WideningLaws.{child_level, child_counts, still_counts, octant_lies}
@@ -61,10 +61,12 @@ fill_octant-fill-requires g t c κs within =
     child_level c.args.place c.child-inner.result c.args.octant c.child-inner.ensures in (
       omega (arith, c.decreases, c.requires.level.0, level),
       (
-        within,
+        within.0,
         (
-          (search rules),
+          within.1,
           (
+            (search rules),
+            (
             omega (arith, c.requires.level.1, level),
             (
               child_counts g.S.Subject.counts (seen c.args.store.now)
@@ -89,6 +91,7 @@ fill_octant-fill-requires g t c κs within =
             ),
           ),
         ),
+      ),
       ),
     )
 

@@ -1,4 +1,4 @@
-use Rattle.std.proofs.Common.{arith, refl, ◌∙◌}
+use Rattle.std.proofs.Common.{arith, refl, rules, ◌∙◌}
 use Rattle.measure.proofs.WideningLaws.{nothing_widens, leaf_widens, all_octants, octant_widens, octant_lies, child_level, child_counts, still_counts, others_more}
 use Rattle.measure.proofs.PruningLaws.{right_still, right_after}
 use Rattle.measure.proofs.extents.+widen.Goals as goal
@@ -51,10 +51,12 @@ widen_in-widen-requires g t c κs within =
     let level = child_level c.args.place c.child.result c.args.octant c.child.ensures in (
       omega (arith, c.decreases, c.requires.level.0, level),
       (
-        within,
+        within.0,
         (
-          (search rules),
+          within.1,
           (
+            (search rules),
+            (
             omega (arith, c.requires.level.1, level),
             (
               child_counts g.S.Subject.counts (seen c.args.store.now)
@@ -74,6 +76,7 @@ widen_in-widen-requires g t c κs within =
             ),
           ),
         ),
+      ),
       ),
     )
 
