@@ -1,6 +1,6 @@
 -- Surfaces, cell by cell, leaf by leaf and layer by layer.
-use Rattle.std.proofs.Common.{◌≡◌, ◌≢◌, ℕ, zero, suc, ◌+◌, ◌-◌, ◌*◌, ◌/◌, ◌%◌, ◌^◌, ◌<◌, ◌≤◌, max, Bool, false, List, [], ◌∷◌, ◌++◌, length, take, Option, refl, sym, ap, subst, ◌∙◌, arith, inl, inr, append_assoc, append-nil}
-use Rattle.std.specs.Prelude.{◌==◌, bit_or, slice_index, slice_set}
+use Rattle.std.proofs.Common.{◌≡◌, ◌≢◌, ℕ, zero, suc, ◌+◌, ◌-◌, ◌*◌, ◌/◌, ◌%◌, ◌^◌, ◌<◌, ◌≤◌, max, Bool, false, List, [], ◌∷◌, ◌++◌, length, take, Option, Result, Ok, Err, refl, sym, ap, subst, ◌∙◌, arith, inl, inr, append_assoc, append-nil}
+use Rattle.std.specs.Prelude.{◌==◌, is_err, OnOk, bit_or, slice_index, slice_set}
 use Rattle.std.specs.Int.{bit_at}
 use Rattle.std.proofs.lemmas.Bool.{cases_eq}
 use Rattle.std.proofs.lemmas.List.{take_at, get_or-set_same, get_or-set_other}
@@ -27,6 +27,7 @@ use Rattle.extract.specs.BareLayers.{HoldsBare, HoldsSlab, CountsBlank, CountsFr
 use Rattle.extract.specs.declared.bare_layers.BareLayer.{BareLayer}
 use Rattle.extract.specs.declared.bare_layers.BareLeaf.{BareLeaf}
 use Rattle.extract.specs.declared.bare_layers.Slab.{Slab}
+use Rattle.extract.proofs.FillLaws.{not_both}
 use Rattle.extract.proofs.LeafLaws.{run_shows, cell_shows, run_inside}
 use Rattle.extract.proofs.ListingLaws.{joined-zero, joined-same, joined-add, length-joined, length-more, appends_none, none_below}
 
@@ -274,3 +275,9 @@ pub room_part : {Z : Type 0} (sides : Cell → ℕ) (b : Boxed) (z y p n left : 
 room_part sides b z y p n left v h room =
     let more = length-more n left (λ i. voxel_of_sides (sides (cell_at (b.at.x + (p + i)) (b.at.y + y) (b.at.z + z))) (p + i) y z) h in
     omega (arith, more, room)
+
+-- what a call tells where it didn't fail
+pub where_done : {A E : Type 0} (r : Result A E) (failed : Bool) (P : Type 0)
+    → failed ≡ is_err r → failed ≡ false → OnOk r P → P
+where_done (Ok x) failed P e f h = h
+where_done (Err x) failed P e f h = absurd (not_both failed f e)

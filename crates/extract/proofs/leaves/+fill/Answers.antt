@@ -54,6 +54,10 @@ fill_octant-returns-then-not-meets-clause-fills g t c cells test p shows =
     (LiesAmong c.args.b c.args.layer q) c.args.b c.args.layer cells c.args.leaves.now c.args.leaves.now) c.child-inner.ensures
     (misses_fills c.child-inner.result c.args.b c.args.layer cells c.args.leaves.now c.requires.b corner (λ m. not_both c.meets.result c.if-not-meets.true (c.meets.ensures.1 m)))
 
+pub fill_octant-meets-requires-clause-inside : goal.fill_octant-meets-requires-clause-inside
+fill_octant-meets-requires-clause-inside g t c =
+    octant_lies c.args.place c.child-inner.result c.args.octant c.requires.level.0 c.requires.octant c.child-inner.ensures c.requires.inside
+
 pub fill_octant-fill-requires : goal.fill_octant-fill-requires
 fill_octant-fill-requires g t c κs within =
     let seen = g.B.Blocks.seen in

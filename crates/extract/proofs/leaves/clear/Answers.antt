@@ -7,7 +7,7 @@ loop-m-init c m lt = absurd (omega arith)
 
 pub loop-m-preserved : goal.loop-m-preserved
 loop-m-preserved c =
-    zeros_more c.loop-m.leaves _ c.loop-m.m refl (omega (arith, c.loop-m-test.true, c.leaves_number-n.ensures.few, c.fits-leaves)) c.loop-m.invariant
+    zeros_more c.loop-m.leaves _ c.loop-m.m refl (omega (arith, c.loop-m-test.true, c.leaves_of-m-end.ensures.few, c.fits-leaves)) c.loop-m.invariant
 
 pub returns : goal.returns
-returns c = record { zeros = λ m lt. c.loop-m.invariant m (omega (arith, lt, c.leaves_number-n.ensures.number)) }
+returns c = record { zeros = λ m lt. c.loop-m.invariant m (omega (arith, lt, c.leaves_of-m-end.ensures.number)) }

@@ -1,14 +1,26 @@
-use Rattle.std.proofs.Common.{refl}
+use Rattle.std.proofs.Common.{refl, rules}
 use Rattle.measure.proofs.FaceLaws.{some_bare}
 use Rattle.measure.proofs.WideningLaws.{root_lies}
 use Rattle.extract.proofs.FillLaws.{bare_filled}
 use Rattle.extract.proofs.leaves.gather_bare.Goals as goal
 
-pub fill-requires-clause-block : goal.fill-requires-clause-block
-fill-requires-clause-block g c = some_bare c.args.direction _ c.args.level c.args.block c.requires.block
-
-pub fill-requires-clause-inside : goal.fill-requires-clause-inside
-fill-requires-clause-inside g c = root_lies c.args.level c.requires.level
+pub fill-requires : goal.fill-requires
+fill-requires g c = (
+  (search rules),
+  (
+    c.requires.level,
+    (
+      some_bare c.args.direction _ c.args.level c.args.block c.requires.block,
+      (
+        root_lies c.args.level c.requires.level,
+        (
+          (search rules),
+          (c.requires.b, ((search rules), ((search rules), c.requires.wholes))),
+        ),
+      ),
+    ),
+  ),
+)
 
 pub returns-clause-layer : goal.returns-clause-layer
 returns-clause-layer g c =

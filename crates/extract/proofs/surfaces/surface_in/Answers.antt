@@ -19,4 +19,4 @@ slabs_in-requires-clause-ends g c =
 
 pub returns-then-slabs_in-clause-voxels : goal.returns-then-slabs_in-clause-voxels
 returns-then-slabs_in-clause-voxels g c =
-    world_surface _ c.root_level.result c.args.side _ _ c.args.b _ _ c.root_level.ensures.value c.root_level.ensures.bounds.0 c.name_of.ensures (c.slabs_in.ensures.voxels refl)
+    world_surface _ c.root_level.result c.args.side _ _ c.args.b _ _ c.root_level.ensures.value c.root_level.ensures.bounds.0 c.name_of.ensures (c.slabs_in.ensures.voxels c.if-slabs_in.true)
