@@ -17,13 +17,13 @@ version-requires-clause-only g c =
 pub changes-changed-requires-clause-before : goal.changes-changed-requires-clause-before
 changes-changed-requires-clause-before g c =
     subst (λ (o : Option Name). HoldsRoot c.version.new.store.told.held c.args.side o)
-    (c.as_ref.ensures.value ∙ sym c.as_ref-2.ensures.value)
+    (c.as_ref.ensures.value ∙ sym c.as_ref-in-Ok.ensures.value)
     (two_old _ c.args.side _ _ c.in-Ok.ensures.ok)
 
 pub changes-changed-requires-clause-after : goal.changes-changed-requires-clause-after
 changes-changed-requires-clause-after g c =
     subst (λ (o : Option Name). HoldsRoot c.version.new.store.told.held c.args.side o)
-    (sym c.as_ref-3.ensures.value) (two_new _ c.args.side _ _ c.in-Ok.ensures.ok)
+    (sym c.as_ref-in-Ok-2.ensures.value) (two_new _ c.args.side _ _ c.in-Ok.ensures.ok)
 
 pub back_if-requires-clause-room : goal.back_if-requires-clause-room
 back_if-requires-clause-room g c =
