@@ -140,12 +140,66 @@ fn gather_sides<B: Blocks>(
     ensures seen { B.seen store.new ≡ B.seen store.old }
     ensures rests { B.rests store.old store.new }
 {
-    gather_bare(store, wholes, Direction::LowX, level, block, b, z, &mut words.low_x);
-    gather_bare(store, wholes, Direction::HighX, level, block, b, z, &mut words.high_x);
-    gather_bare(store, wholes, Direction::LowY, level, block, b, z, &mut words.low_y);
-    gather_bare(store, wholes, Direction::HighY, level, block, b, z, &mut words.high_y);
-    gather_bare(store, wholes, Direction::LowZ, level, block, b, z, &mut words.low_z);
-    gather_bare(store, wholes, Direction::HighZ, level, block, b, z, &mut words.high_z);
+    gather_bare(
+        store,
+        wholes,
+        Direction::LowX,
+        level,
+        block,
+        b,
+        z,
+        &mut words.low_x,
+    );
+    gather_bare(
+        store,
+        wholes,
+        Direction::HighX,
+        level,
+        block,
+        b,
+        z,
+        &mut words.high_x,
+    );
+    gather_bare(
+        store,
+        wholes,
+        Direction::LowY,
+        level,
+        block,
+        b,
+        z,
+        &mut words.low_y,
+    );
+    gather_bare(
+        store,
+        wholes,
+        Direction::HighY,
+        level,
+        block,
+        b,
+        z,
+        &mut words.high_y,
+    );
+    gather_bare(
+        store,
+        wholes,
+        Direction::LowZ,
+        level,
+        block,
+        b,
+        z,
+        &mut words.low_z,
+    );
+    gather_bare(
+        store,
+        wholes,
+        Direction::HighZ,
+        level,
+        block,
+        b,
+        z,
+        &mut words.high_z,
+    );
 }
 
 /// The words of one leaf.

@@ -38,7 +38,15 @@ pub fn gather<B: Blocks>(
     let at = Cell { x: 0, y: 0, z: 0 };
     let place = Block { level, at };
     let subject = SetCells { block };
-    fill(store, &mut wholes, subject, place, b, (b.at.z + z) / 4, &mut leaves);
+    fill(
+        store,
+        &mut wholes,
+        subject,
+        place,
+        b,
+        (b.at.z + z) / 4,
+        &mut leaves,
+    );
     leaves
 }
 

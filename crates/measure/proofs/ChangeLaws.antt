@@ -123,8 +123,7 @@ pub some_changed : (a b : Seen) (level : ℕ) (before after : Option Name) → b
     → (test : Cell → Bool) × PassesChanged b.held level before after test
 some_changed a b level before after e named h k =
     let test : Cell → Bool =
-    differs (cells_of level (shape_of h.tree)) (cells_of level (shape_of k.tree)) in
-    (
+    differs (cells_of level (shape_of h.tree)) (cells_of level (shape_of k.tree)) in (
       test,
       subst (λ (s : Seen). PassesChanged s.held level before after test) (sym e)
           (block_changed a.held level before after h.tree k.tree named h.is_block k.is_block),

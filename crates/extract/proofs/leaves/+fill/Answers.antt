@@ -71,22 +71,23 @@ fill_octant-fill-requires g t c κs within =
           (
             (search rules),
             (
-            omega (arith, c.requires.level.1, level),
-            (
-              child_counts g.S.Subject.counts (seen c.args.store.now)
-                  (seen c.octant-child.new.store) c.args.place c.child-inner.result c.args.octant c.args.subject c.octant-child.result c.requires.block.0
-                  c.octant-child.ensures.seen c.child-inner.ensures c.octant-child.ensures.octant c.requires.block.1,
+              omega (arith, c.requires.level.1, level),
               (
-                octant_lies c.args.place c.child-inner.result c.args.octant c.requires.level.0 c.requires.octant c.child-inner.ensures c.requires.inside,
+                child_counts g.S.Subject.counts (seen c.args.store.now)
+                    (seen c.octant-child.new.store) c.args.place c.child-inner.result c.args.octant c.args.subject c.octant-child.result c.requires.block.0
+                    c.octant-child.ensures.seen c.child-inner.ensures c.octant-child.ensures.octant c.requires.block.1,
                 (
-                  octant_corner c.args.place c.child-inner.result c.args.octant c.requires.octant c.child-inner.ensures c.requires.corner,
+                  octant_lies c.args.place c.child-inner.result c.args.octant c.requires.level.0 c.requires.octant c.child-inner.ensures c.requires.inside,
                   (
-                    c.requires.b,
+                    octant_corner c.args.place c.child-inner.result c.args.octant c.requires.octant c.child-inner.ensures c.requires.corner,
                     (
-                      c.requires.layer,
+                      c.requires.b,
                       (
-                        c.meets.ensures.0 c.if-not-meets.false,
-                        whole_right_before g.S.Subject.counts (seen c.octant-child.new.store) (seen c.args.store.now) _ (sym c.octant-child.ensures.seen) c.requires.wholes,
+                        c.requires.layer,
+                        (
+                          c.meets.ensures.0 c.if-not-meets.false,
+                          whole_right_before g.S.Subject.counts (seen c.octant-child.new.store) (seen c.args.store.now) _ (sym c.octant-child.ensures.seen) c.requires.wholes,
+                        ),
                       ),
                     ),
                   ),
@@ -95,7 +96,6 @@ fill_octant-fill-requires g t c κs within =
             ),
           ),
         ),
-      ),
       ),
     )
 

@@ -1,4 +1,4 @@
-use Rattle.std.proofs.Common.{◌+◌, arith}
+use Rattle.std.proofs.Common.{◌+◌}
 use Rattle.vw_cell.specs.Counts.{cell_at}
 use Rattle.extract.specs.Surface.{voxel_of_sides}
 use Rattle.extract.specs.BareLayers.{leaf_sides}

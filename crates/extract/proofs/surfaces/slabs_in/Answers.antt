@@ -1,4 +1,4 @@
-use Rattle.std.proofs.Common.{arith, refl, sym, append-nil, ◌∙◌}
+use Rattle.std.proofs.Common.{arith, refl, sym, ◌∙◌}
 use Rattle.vw_cell.specs.Places.{block_side}
 use Rattle.node_words.specs.shapes.Tree.{shape_of}
 use Rattle.node_words.specs.descent.Roots.{cells_of}
@@ -6,7 +6,7 @@ use Rattle.node_words.proofs.OfDescent.LookLaws.{block_still}
 use Rattle.measure.specs.Faces.{passes_bare}
 use Rattle.measure.proofs.WholeLaws.{whole_right_before}
 use Rattle.extract.specs.Surface.{bare_sides_of, layer_of_sides}
-use Rattle.extract.proofs.SurfaceLaws.{slab_more, slab_none, begins_so}
+use Rattle.extract.proofs.SurfaceLaws.{slab_more, slab_none}
 use Rattle.extract.proofs.surfaces.slabs_in.Goals as goal
 
 pub loop-z-init : goal.loop-z-init

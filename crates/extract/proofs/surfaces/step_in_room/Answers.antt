@@ -1,4 +1,4 @@
-use Rattle.std.proofs.Common.{◌+◌, ◌-◌, ◌%◌, List, ℕ, ◌≤◌, length, arith, refl, sym, ap, subst, ◌∙◌}
+use Rattle.std.proofs.Common.{◌+◌, ◌-◌, ◌%◌, List, length, arith, refl, sym, ap, subst, ◌∙◌}
 use Rattle.vw_cell.specs.Counts.{cell_at}
 use Rattle.vox_read.specs.declared.voxels.Voxel.{Voxel}
 use Rattle.extract.specs.Layers.{HasRoom, AppendsVoxels}

@@ -1,4 +1,3 @@
-use Rattle.std.proofs.Common.{refl}
 use Rattle.node_words.proofs.OfDescent.BlockLaws.{root_block}
 use Rattle.node_words.proofs.OfDescent.PartLaws.{box_in_root}
 use Rattle.extract.proofs.LeafLaws.{small_box}

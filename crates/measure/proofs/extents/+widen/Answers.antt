@@ -57,26 +57,26 @@ widen_in-widen-requires g t c κs within =
           (
             (search rules),
             (
-            omega (arith, c.requires.level.1, level),
-            (
-              child_counts g.S.Subject.counts (seen c.args.store.now)
-                  (seen c.octant-child.new.store) c.args.place c.child.result c.args.octant c.args.subject c.octant-child.result c.requires.block.0
-                  c.octant-child.ensures.seen c.child.ensures c.octant-child.ensures.octant c.requires.block.1,
+              omega (arith, c.requires.level.1, level),
               (
-                octant_lies c.args.place c.child.result c.args.octant c.requires.level.0 c.requires.octant c.child.ensures c.requires.inside,
+                child_counts g.S.Subject.counts (seen c.args.store.now)
+                    (seen c.octant-child.new.store) c.args.place c.child.result c.args.octant c.args.subject c.octant-child.result c.requires.block.0
+                    c.octant-child.ensures.seen c.child.ensures c.octant-child.ensures.octant c.requires.block.1,
                 (
-                  c.requires.octant,
+                  octant_lies c.args.place c.child.result c.args.octant c.requires.level.0 c.requires.octant c.child.ensures c.requires.inside,
                   (
-                    c.requires.found,
-                    right_after g.S.Subject.counts (seen c.args.store.now)
-                        (seen c.octant-child.new.store) _ c.octant-child.ensures.seen c.requires.answers,
+                    c.requires.octant,
+                    (
+                      c.requires.found,
+                      right_after g.S.Subject.counts (seen c.args.store.now)
+                          (seen c.octant-child.new.store) _ c.octant-child.ensures.seen c.requires.answers,
+                    ),
                   ),
                 ),
               ),
             ),
           ),
         ),
-      ),
       ),
     )
 
