@@ -1,10 +1,9 @@
 -- The words of a layer's leaves, filled in block by block.
 use Rattle.std.proofs.Common.{◌≡◌, ◌≢◌, ℕ, zero, suc, ◌+◌, ◌-◌, ◌*◌, ◌/◌, ◌%◌, ◌^◌, ◌<◌, ◌≤◌, Bool, true, false, List, length, Option, None, refl, sym, ap, subst, ◌∙◌, arith, inl, inr, ◌⊎◌}
 use Rattle.std.specs.Prelude.{◌==◌, slice_index, slice_set, replicate}
-use Rattle.std.specs.Int.{bit_at}
 use Rattle.std.proofs.lemmas.Bool.{cases_eq, cases_lt}
 use Rattle.std.proofs.lemmas.Nat.Bits.{bit_at-zero}
-use Rattle.std.proofs.lemmas.Nat.{mod_below, div_below, div-add-mod'}
+use Rattle.std.proofs.lemmas.Nat.{mod_below, div_below, div-add-mod', mul-le}
 use Rattle.std.proofs.lemmas.List.{get_or-set_same, get_or-set_other, get_or-replicate, get_or_past, length-replicate}
 use Rattle.vw_cell.specs.declared.cells.Cell.{Cell}
 use Rattle.vw_cell.specs.declared.boxes.Boxed.{Boxed}
@@ -12,19 +11,22 @@ use Rattle.vw_cell.specs.declared.blocks.Block.{Block}
 use Rattle.vw_cell.specs.Counts.{cell_at}
 use Rattle.vw_cell.specs.Places.{block_side, half_x, half_y, half_z, IsWithin, IsInBlock, Touches, octant_of}
 use Rattle.node_words.specs.declared.shapes.names.Name.{Name}
-use Rattle.node_words.specs.shapes.Shape.{Shape, Clear, bits_of, bit_number, has, ShowsCells}
-use Rattle.node_words.specs.shapes.Tree.{Tree, shape_of, child_of}
-use Rattle.node_words.proofs.OfShapes.ShapeLaws.{has-clear}
-use Rattle.node_words.proofs.OfShapes.ShowLaws.{octant_shows}
-use Rattle.node_words.proofs.OfShapes.TreeLaws.{shape_of-child}
+use Rattle.vw_cell.specs.declared.directions.Direction.{Direction}
+use Rattle.vw_cell.specs.Faces.{is_bare}
+use Rattle.node_words.specs.shapes.Shape.{bit_number}
+use Rattle.node_words.specs.shapes.Tree.{Tree, shape_of}
 use Rattle.node_words.specs.kernels.Leaves.{LeafShows}
 use Rattle.node_words.specs.Held.{Seen}
-use Rattle.node_words.specs.descent.Roots.{IsBlockOf, IsOctantOf, ForBlock, cells_of}
+use Rattle.node_words.specs.descent.Roots.{ForBlock, cells_of}
 use Rattle.node_words.specs.descent.Parts.{EndsBy}
-use Rattle.node_words.proofs.OfDescent.BlockLaws.{clear_block}
-use Rattle.node_words.proofs.OfDescent.LookLaws.{block_still}
-use Rattle.measure.specs.Widening.{ForPlace}
-use Rattle.measure.proofs.WideningLaws.{has_octant, shown_root}
+use Rattle.measure.specs.Bare.{PassesBare}
+use Rattle.measure.specs.Leaves.{TellsCells}
+use Rattle.measure.specs.Subjects.{PassesSet}
+use Rattle.measure.specs.Tallies.{Counting, in_octant, PassesNone}
+use Rattle.measure.specs.Widening.{ForCounted, ShowsPassed}
+use Rattle.measure.proofs.FaceLaws.{world_bare}
+use Rattle.measure.proofs.SubjectLaws.{block_set}
+use Rattle.measure.proofs.WideningLaws.{has_octant, leaf_shows, none_there, octant_counts_in, octant_passed, shown_root}
 use Rattle.extract.specs.Layers.{leaves_met, leaves_along, leaves_in, leaf_block, leaf_corner, HoldsLayer, IsLeafCorner, IsSmallLayer}
 use Rattle.extract.specs.Filling.{MeetsLayer, ShowsItsLeaf, AreBegun, Fills, IsInFirst}
 use Rattle.extract.proofs.LeafLaws.{corner_in}
@@ -119,7 +121,7 @@ leaf_in place c x y z p q i lx ly lz = record {
 corner_leaf : (b : Boxed) (layer m : ℕ) → IsLeafCorner (leaf_corner b layer m)
 corner_leaf b layer m = record { x = omega arith; y = omega arith; z = omega arith }
 
--- where nothing stands the words stay
+-- where nothing counts the words stay
 zero_shows : (place : Block) (cells : Cell → Bool) (word : ℕ) (c : Cell) → word ≡ 0
     → IsLeafCorner place.at → IsLeafCorner c → IsInBlock place c
     → ((p : Cell) → IsInBlock place p → cells p ≡ false) → LeafShows word (leaf_block c) cells
@@ -130,17 +132,15 @@ zero_shows place cells word c e p q i unset =
           ∙ sym (unset _ (leaf_in place c x y z p q i lx ly lz));
     })
 
-pub nothing_fills : (held : List Tree) (block : Option Name) (place : Block) (b : Boxed) (layer : ℕ)
-    (words : List ℕ) → block ≡ None → IsLeafCorner place.at
-    → ForPlace held block place (λ cells. Fills (LiesAmong b layer place) b layer cells words words)
-nothing_fills held block place b layer words e corner cells t o shows =
-    let clear : shape_of t ≡ Clear =
-    clear_block held place.level t
-    (subst (λ (n : Option Name). IsBlockOf held place.level n t) e o) in
-    let unset : (p : Cell) → IsInBlock place p → cells p ≡ false =
-    λ p i. sym (shows.each p i)
-    ∙ ap (λ (s : Shape). has place.level s (p.x - place.at.x) (p.y - place.at.y)
-    (p.z - place.at.z)) clear ∙ has-clear place.level _ _ _ in
+pub nothing_fills : {S : Type 0} (counts : Counting S) (held : List Tree) (subject : S)
+    (place : Block) (b : Boxed) (layer : ℕ) (words : List ℕ)
+    → ((test : Cell → Bool) → counts held place.level subject test → PassesNone place.level test)
+    → IsLeafCorner place.at
+    → ForCounted counts held subject place
+    (λ cells. Fills (LiesAmong b layer place) b layer cells words words)
+nothing_fills counts held subject place b layer words none corner cells test p shows =
+    let unset : (q : Cell) → IsInBlock place q → cells q ≡ false =
+    λ q i. none_there place test cells q (none test p) shows i in
     fills_none _ b layer cells words
     (λ f m lt i. elim
     (f m lt) [
@@ -148,34 +148,6 @@ nothing_fills held block place b layer words e corner cells t o shows =
           (corner_leaf b layer m) i unset
       | inr s ↦ s
     ])
-
--- a leaf by itself
-leaf_has_place : (level : ℕ) (s : Shape) (x y z x' y' z' : ℕ) → level ≡ 0 → x ≡ x' → y ≡ y' → z ≡ z'
-    → has level s x y z ≡ (bit_at (bits_of s) (bit_number x' y' z') == 1)
-unfolding has
-leaf_has_place level s x y z x' y' z' e p q r = ap (λ (l : ℕ). has l s x y z) e ∙ rw (p, q, r) refl
-
-leaf_shown : (held : List Tree) (block : Option Name) (place : Block) (bits : ℕ)
-    (cells : Cell → Bool) (t : Tree) → place.level ≡ 0
-    → ForBlock held 0 block (λ s. bits ≡ bits_of s) → IsBlockOf held place.level block t
-    → ShowsCells place (shape_of t) cells → LeafShows bits (leaf_block place.at) cells
-leaf_shown held block place bits cells t e told o shows =
-    let at : IsBlockOf held 0 block t = subst (λ (l : ℕ). IsBlockOf held l block t) e o in
-    let side : block_side place.level ≡ 4 = ap block_side e in
-    record {
-      each = λ x y z lx ly lz.
-          let c : Cell = cell_at (place.at.x + x) (place.at.y + y) (place.at.z + z) in
-          let inside : IsInBlock place c =
-          record {
-            x = (omega arith, omega (arith, side));
-            y =
-                (omega arith, omega (arith, side));
-            z = (omega arith, omega (arith, side));
-          } in
-          ap (λ (n : ℕ). bit_at n (bit_number x y z) == 1) (told t at)
-          ∙ sym (leaf_has_place place.level (shape_of t) _ _ _ x y z e (omega arith)
-          (omega arith) (omega arith)) ∙ shows.each c inside;
-    }
 
 -- one corner has one number
 one_axis : (low p q : ℕ) → low ≡ 4 * q → IsWithin low 4 (4 * p) → p ≡ q
@@ -204,16 +176,19 @@ one_number b layer m i place e corner some inside =
     (sym (ap (λ (c : Cell). c.y) corner)) y in
     div_mod_one (leaves_along b) i m some (omega (arith, px)) (omega (arith, py))
 
-pub leaf_fills : (held : List Tree) (block : Option Name) (place : Block) (b : Boxed)
-    (layer m bits : ℕ) (words : List ℕ) → place.level ≡ 0 → IsSmallLayer b → m < length words
-    → leaf_corner b layer m ≡ place.at → ForBlock held 0 block (λ s. bits ≡ bits_of s)
-    → ForPlace held block place
+pub leaf_fills : {S : Type 0} (counts : Counting S) (held : List Tree) (subject : S)
+    (place : Block) (b : Boxed) (layer m bits : ℕ) (words : List ℕ) → place.level ≡ 0
+    → IsSmallLayer b → m < length words → leaf_corner b layer m ≡ place.at
+    → ((test : Cell → Bool) → counts held 0 subject test → TellsCells bits test)
+    → ForCounted counts held subject place
     (λ cells. Fills (LiesAmong b layer place) b layer cells words (slice_set words m bits))
-leaf_fills held block place b layer m bits words e small inside corner told cells t o shows =
+leaf_fills counts held subject place b layer m bits words e small inside corner told cells test p shows =
     let some : 1 ≤ leaves_along b = (let sx = small.x.0 in omega arith) in
-    let shown = leaf_shown held block place bits cells t e told o shows in
+    let at : counts held 0 subject test = subst (λ (l : ℕ). counts held l subject test) e p in
+    let shown : LeafShows bits place cells = leaf_shows bits place test cells e (told test at) shows in
     let here : LeafShows bits (leaf_block (leaf_corner b layer m)) cells =
-    subst (λ (c : Cell). LeafShows bits (leaf_block c) cells) (sym corner) shown in
+    subst (λ (c : Cell). LeafShows bits (leaf_block c) cells) (sym corner)
+    (record { each = shown.each }) in
     fills_one (LiesAmong b layer place) b layer cells words m bits inside here
     (λ i lt w. one_number b layer m i place e corner some w)
 
@@ -277,20 +252,23 @@ misses_fills place b layer cells words small corner not =
     fills_none _ b layer cells words
     (λ f m lt i. absurd (not (among_meets place b layer m small corner lt i)))
 
-pub octant_fills : (a b : Seen) (block child : Option Name) (place inner : Block) (k : ℕ)
-    (box : Boxed) (layer : ℕ) (old new : List ℕ) → b ≡ a → 1 ≤ place.level → k < 8
-    → inner ≡ octant_of place k → IsOctantOf a.held place.level block k child
-    → ForPlace b.held child inner
+pub octant_fills : {S : Type 0} (counts : Counting S) (a b : Seen) (subject child : S)
+    (place inner : Block) (k : ℕ) (box : Boxed) (layer : ℕ) (old new : List ℕ) → b ≡ a
+    → 1 ≤ place.level → k < 8 → inner ≡ octant_of place k
+    → ((u : Cell → Bool) → counts a.held place.level subject u
+    → counts a.held (place.level - 1) child (in_octant place.level k u))
+    → ForCounted counts b.held child inner
     (λ cells. Fills (LiesAmong box layer inner) box layer cells old new)
-    → ForPlace a.held block place
+    → ForCounted counts a.held subject place
     (λ cells. Fills (LiesAmong box layer (octant_of place k)) box layer cells old new)
-octant_fills a b block child place inner k box layer old new e h lt is octant told cells t o shows =
-    let told' : ForPlace b.held child (octant_of place k) (λ cells. Fills (LiesAmong box layer (octant_of place k)) box layer cells old new) = subst (λ (p : Block). ForPlace b.held child p (λ cells. Fills (LiesAmong box layer p) box layer cells old new)) is told in
-    let below = block_still a b (place.level - 1) child (child_of t k) e (octant t o) in
-    let shown : ShowsCells (octant_of place k) (shape_of (child_of t k)) cells =
-    subst (λ (s : Shape). ShowsCells (octant_of place k) s cells) (sym (shape_of-child t k))
-    (octant_shows place (shape_of t) cells k h lt shows) in
-    told' cells (child_of t k) below shown
+octant_fills counts a b subject child place inner k box layer old new e h lt is down told cells test p shows =
+    let told' : ForCounted counts b.held child (octant_of place k) (λ cells. Fills (LiesAmong box layer (octant_of place k)) box layer cells old new) =
+    subst (λ (q : Block). ForCounted counts b.held child q
+    (λ cells. Fills (LiesAmong box layer q) box layer cells old new)) is told in
+    let below : counts b.held (place.level - 1) child (in_octant place.level k test) =
+    octant_counts_in counts a b place (octant_of place k) k subject child test e refl down p in
+    told' cells (in_octant place.level k test) below
+    (octant_passed place test cells k h lt shows)
 
 -- an octant's corner is one of leaves
 axis_corner : (low half i : ℕ) (q : ℕ) → low % 4 ≡ 0 → half ≡ 4 * q → i < 2
@@ -311,34 +289,55 @@ octant_corner place inner k lt e p =
           (2 ^ (place.level - 1)) p.z refl (omega arith);
     })
 
+-- a layer of a world that was filled in
+root_filled : (level layer z : ℕ) (b : Boxed) (cells : Cell → Bool) (old new : List ℕ)
+    → IsSmallLayer b → EndsBy (block_side level) b → z < b.size.z → layer ≡ (b.at.z + z) / 4
+    → ((m : ℕ) → m < leaves_in b → slice_index old m ≡ 0)
+    → Fills (LiesAmong b layer (record { level = level; at = cell_at 0 0 0 })) b layer cells old new
+    → HoldsLayer new b layer (leaves_in b) cells
+root_filled level layer z b cells old new small ends lt e none filled = record {
+  each = λ m inside.
+      let c = corner_in b (block_side level) z m small ends lt inside in
+      let there : LiesAmong b layer (record {
+        level =
+            level;
+        at = cell_at 0 0 0;
+      }) m =
+      record {
+        x = (omega arith, omega (arith, c.x));
+        y =
+            (omega arith, omega (arith, c.y));
+        z =
+            (omega arith, omega (arith, c.z, e));
+      } in
+      filled.there (λ i j. inl (none i j)) m inside there;
+}
+
 pub layer_filled : (held : List Tree) (level layer z : ℕ) (block : Option Name) (b : Boxed)
     (old new : List ℕ) → IsSmallLayer b → EndsBy (block_side level) b → z < b.size.z
     → layer ≡ (b.at.z + z) / 4 → ((m : ℕ) → slice_index old m ≡ 0)
-    → ForPlace held block (record { level = level; at = cell_at 0 0 0 })
-    (λ cells. Fills
-    (LiesAmong b layer
-    (record { level = level; at = cell_at 0 0 0 })) b layer cells old new)
+    → ((cells test : Cell → Bool) → PassesSet held level block test
+    → ShowsPassed (record { level = level; at = cell_at 0 0 0 }) test cells
+    → Fills (LiesAmong b layer (record { level = level; at = cell_at 0 0 0 })) b layer cells old new)
     → ForBlock held level block
     (λ s. HoldsLayer new b layer (leaves_in b) (cells_of level s))
 layer_filled held level layer z block b old new small ends lt e none fills t o =
-    let filled = fills (cells_of level (shape_of t)) t o (shown_root level (shape_of t)) in
-    record {
-      each = λ m inside.
-          let c = corner_in b (block_side level) z m small ends lt inside in
-          let there : LiesAmong b layer (record {
-            level =
-                level;
-            at = cell_at 0 0 0;
-          }) m =
-          record {
-            x = (omega arith, omega (arith, c.x));
-            y =
-                (omega arith, omega (arith, c.y));
-            z =
-                (omega arith, omega (arith, c.z, e));
-          } in
-          filled.there (λ i j. inl (none i)) m inside there;
-    }
+    let cells : Cell → Bool = cells_of level (shape_of t) in
+    root_filled level layer z b cells old new small ends lt e (λ m _. none m)
+    (fills cells cells (block_set held level block t o) (shown_root level cells))
+
+pub bare_filled : (d : Direction) (held : List Tree) (level layer z : ℕ) (block : Option Name)
+    (b : Boxed) (old new : List ℕ) → IsSmallLayer b → EndsBy (block_side level) b → z < b.size.z
+    → layer ≡ (b.at.z + z) / 4 → ((m : ℕ) → m < leaves_in b → slice_index old m ≡ 0)
+    → ((cells test : Cell → Bool) → PassesBare d held level block None test
+    → ShowsPassed (record { level = level; at = cell_at 0 0 0 }) test cells
+    → Fills (LiesAmong b layer (record { level = level; at = cell_at 0 0 0 })) b layer cells old new)
+    → ForBlock held level block
+    (λ s. HoldsLayer new b layer (leaves_in b) (is_bare d (block_side level) (cells_of level s)))
+bare_filled d held level layer z block b old new small ends lt e none fills t o =
+    let cells : Cell → Bool = is_bare d (block_side level) (cells_of level (shape_of t)) in
+    root_filled level layer z b cells old new small ends lt e none
+    (fills cells cells (world_bare d held level block t o) (shown_root level cells))
 
 -- all words are 0 at first
 pub all_zero : (m : ℕ) → slice_index (replicate 4225 0) m ≡ 0
@@ -348,6 +347,20 @@ all_zero m =
       | inl below ↦ get_or-replicate 4225 m 0 0 below
       | inr past ↦ get_or_past
           (replicate 4225 0) m 0 (omega (arith, past, length-replicate {A = ℕ} 4225 0))
+    ]
+
+-- the greatest layer
+pub few_leaves : (down along : ℕ) → down ≤ 65 → along ≤ 65 → down * along ≤ 4225
+few_leaves down along p q = mul-le down along 65 65 p q
+
+-- one more word is 0
+pub zeros_more : (old new : List ℕ) (k : ℕ) → new ≡ slice_set old k 0 → k < length old
+    → ((m : ℕ) → m < k → slice_index old m ≡ 0) → (m : ℕ) → m < k + 1 → slice_index new m ≡ 0
+zeros_more old new k e inside zeros m lt =
+    ap (λ (words : List ℕ). slice_index words m) e
+    ∙ elim (cases_eq m k) [
+      | inl same ↦ word_same old k m 0 inside same
+      | inr other ↦ get_or-set_other old k m 0 0 other ∙ zeros m (omega arith)
     ]
 
 -- a test isn't both

@@ -49,17 +49,15 @@ run_place at p i x0 h = omega arith
 row_place : (at y0 : ℕ) → y0 ≤ at / 4 → 4 * (y0 + (at / 4 - y0)) + at % 4 ≡ at
 row_place at y0 h = omega arith
 
-pub run_is_row : (words : List ℕ) (b : Boxed) (z y p n m bits : ℕ) (cells : Cell → Bool)
+pub run_shows : (words : List ℕ) (b : Boxed) (z y p n m bits : ℕ) (cells : Cell → Bool)
     → IsSmallLayer b → y < b.size.y → p + n ≤ b.size.x → (b.at.x + p) % 4 + n ≤ 4
     → m ≡ ((b.at.y + y) / 4 - b.at.y / 4) * leaves_along b + ((b.at.x + p) / 4 - b.at.x / 4)
     → m < leaves_in b → bits ≡ slice_index words m → 1 ≤ n
-    → HoldsLayer words b ((b.at.z + z) / 4) (leaves_in b) cells
-    → row_voxels (bits_show bits)
-    (cell_at ((b.at.x + p) % 4) ((b.at.y + y) % 4) ((b.at.z + z) % 4)) n (cell_at p y z)
-    ≡ voxels_joined n
-    (λ i. voxel_if (cells (cell_at (b.at.x + (p + i)) (b.at.y + y) (b.at.z + z)))
-    (0 + (p + i)) y z)
-run_is_row words b z y p n m bits cells small ly fits leaf is inside word some held =
+    → HoldsLayer words b ((b.at.z + z) / 4) (leaves_in b) cells → (i : ℕ) → i < n
+    → bits_show bits
+    (cell_at ((b.at.x + p) % 4 + i) ((b.at.y + y) % 4) ((b.at.z + z) % 4))
+    ≡ cells (cell_at (b.at.x + (p + i)) (b.at.y + y) (b.at.z + z))
+run_shows words b z y p n m bits cells small ly fits leaf is inside word some held i lt =
     let along : ℕ = leaves_along b in
     let down : ℕ = (b.at.y + y) / 4 - b.at.y / 4 in
     let right : ℕ = (b.at.x + p) / 4 - b.at.x / 4 in
@@ -71,7 +69,6 @@ run_is_row words b z y p n m bits cells small ly fits leaf is inside word some h
     let shows =
     subst (λ (w : ℕ). LeafShows w (leaf_block (leaf_corner b ((b.at.z + z) / 4) m)) cells)
     (sym word) (held.each m inside) in
-    joined-same n _ _ (λ i lt.
     let place : cell_at (4 * (b.at.x / 4 + m % along) + ((b.at.x + p) % 4 + i)) (4 * (b.at.y / 4 + m / along) + (b.at.y + y) % 4) (4 * ((b.at.z + z) / 4) + (b.at.z + z) % 4) ≡ cell_at (b.at.x + (p + i)) (b.at.y + y) (b.at.z + z) =
     same_cell _ _ _ _
     (ap (λ (j : ℕ). 4 * (b.at.x / 4 + j) + ((b.at.x + p) % 4 + i)) col
@@ -80,9 +77,39 @@ run_is_row words b z y p n m bits cells small ly fits leaf is inside word some h
     ∙ row_place (b.at.y + y) (b.at.y / 4) (omega arith))
     (omega arith)
     in
-    let set =
     shows.each ((b.at.x + p) % 4 + i) ((b.at.y + y) % 4) ((b.at.z + z) % 4) (omega arith)
-    (omega arith) (omega arith) ∙ ap cells place in
+    (omega arith) (omega arith) ∙ ap cells place
+
+-- the same of one cell
+pub cell_shows : (words : List ℕ) (b : Boxed) (z y p m : ℕ) (cells : Cell → Bool)
+    → IsSmallLayer b → y < b.size.y → p < b.size.x
+    → m ≡ ((b.at.y + y) / 4 - b.at.y / 4) * leaves_along b + ((b.at.x + p) / 4 - b.at.x / 4)
+    → m < leaves_in b → HoldsLayer words b ((b.at.z + z) / 4) (leaves_in b) cells
+    → bits_show (slice_index words m)
+    (cell_at ((b.at.x + p) % 4) ((b.at.y + y) % 4) ((b.at.z + z) % 4))
+    ≡ cells (cell_at (b.at.x + p) (b.at.y + y) (b.at.z + z))
+cell_shows words b z y p m cells small ly lp is inside held =
+    let from : (b.at.x + p) % 4 ≡ (b.at.x + p) % 4 + 0 = omega arith in
+    let to : b.at.x + (p + 0) ≡ b.at.x + p = omega arith in
+    ap (λ (x : ℕ). bits_show (slice_index words m)
+    (cell_at x ((b.at.y + y) % 4) ((b.at.z + z) % 4))) from
+    ∙ run_shows words b z y p 1 m (slice_index words m) cells small ly (omega arith) (omega arith) is
+    inside refl (omega arith) held 0 (omega arith)
+    ∙ ap (λ (x : ℕ). cells (cell_at x (b.at.y + y) (b.at.z + z))) to
+
+pub run_is_row : (words : List ℕ) (b : Boxed) (z y p n m bits : ℕ) (cells : Cell → Bool)
+    → IsSmallLayer b → y < b.size.y → p + n ≤ b.size.x → (b.at.x + p) % 4 + n ≤ 4
+    → m ≡ ((b.at.y + y) / 4 - b.at.y / 4) * leaves_along b + ((b.at.x + p) / 4 - b.at.x / 4)
+    → m < leaves_in b → bits ≡ slice_index words m → 1 ≤ n
+    → HoldsLayer words b ((b.at.z + z) / 4) (leaves_in b) cells
+    → row_voxels (bits_show bits)
+    (cell_at ((b.at.x + p) % 4) ((b.at.y + y) % 4) ((b.at.z + z) % 4)) n (cell_at p y z)
+    ≡ voxels_joined n
+    (λ i. voxel_if (cells (cell_at (b.at.x + (p + i)) (b.at.y + y) (b.at.z + z)))
+    (0 + (p + i)) y z)
+run_is_row words b z y p n m bits cells small ly fits leaf is inside word some held =
+    joined-same n _ _ (λ i lt.
+    let set = run_shows words b z y p n m bits cells small ly fits leaf is inside word some held i lt in
     let to : p + i ≡ 0 + (p + i) = omega arith in
     ap (λ (v : Bool). voxel_if v (p + i) y z) set
     ∙ ap (λ (x : ℕ). voxel_if

@@ -27,7 +27,7 @@ joined-same zero f g same = refl
 joined-same (suc n) f g same =
     rw (joined-same n f g (λ i lt. same i (omega arith)), same n (omega arith)) refl
 
-joined-add : (a b : ℕ) (f : ℕ → List Voxel)
+pub joined-add : (a b : ℕ) (f : ℕ → List Voxel)
     → voxels_joined (a + b) f ≡ voxels_joined a f ++ voxels_joined b (λ i. f (a + i))
 unfolding voxels_joined
 joined-add a zero f = rw add-zero (sym (append-nil (voxels_joined a f)))
@@ -54,7 +54,7 @@ length-one : (k : ℕ) (f : ℕ → List Voxel)
     → length (voxels_joined (suc k) f) ≡ length (voxels_joined k f) + length (f k)
 length-one k f = ap length (joined-suc k f) ∙ length-append (voxels_joined k f) (f k)
 
-length-more : (k n : ℕ) (f : ℕ → List Voxel) → k ≤ n
+pub length-more : (k n : ℕ) (f : ℕ → List Voxel) → k ≤ n
     → length (voxels_joined k f) ≤ length (voxels_joined n f)
 length-more k n f h = let piece = length-piece k 0 n f (omega arith) in omega (arith, piece)
 
@@ -108,7 +108,7 @@ room_run p r n f old mid fits room a =
     let piece = length-piece p r n f fits in omega (arith, piece, a.len, a.room)
 
 -- as many voxels as set cells
-length-joined : (n : ℕ) (f : ℕ → List Voxel)
+pub length-joined : (n : ℕ) (f : ℕ → List Voxel)
     → length (voxels_joined n f) ≡ sum_below n (λ i. length (f i))
 unfolding voxels_joined sum_below
 length-joined zero f = refl
@@ -133,6 +133,10 @@ pub no_voxels : (n : ℕ) (f : ℕ → List Voxel) → ((i : ℕ) → f i ≡ []
 unfolding voxels_joined
 no_voxels zero f none = refl
 no_voxels (suc n) f none = rw (no_voxels n f none, none n) refl
+
+pub none_below : (n : ℕ) (f : ℕ → List Voxel) → ((i : ℕ) → i < n → f i ≡ [])
+    → voxels_joined n f ≡ []
+none_below n f none = joined-same n f (λ _. []) none ∙ no_voxels n (λ _. []) (λ _. refl)
 
 pub no_bits : {Z : Type 0} (bits n : ℕ) (at to : Cell) (v : Vec Voxel Z) → bits ≡ 0
     → AppendsVoxels (row_voxels (bits_show bits) at n to) v v

@@ -2,3 +2,5 @@ pub mod Listing
 pub mod Layers
 pub mod Filling
 pub mod Saved
+pub mod Surface
+pub mod BareLayers

@@ -1,13 +1,19 @@
-ghost use Rattle.std.specs.Prelude.{◌≡◌, ℕ, ◌+◌, ◌*◌, ◌<◌, ◌≤◌, ◌/◌, ◌↔◌, IsTrue};
+ghost use Rattle.std.specs.Prelude.{◌≡◌, ℕ, ◌+◌, ◌*◌, ◌<◌, ◌≤◌, ◌/◌, ◌↔◌, IsTrue, Bool, slice_index};
+ghost use Rattle.vw_cell.specs.declared.cells.Cell.{Cell};
+ghost use Rattle.vw_cell.specs.Faces.{is_bare};
 ghost use Rattle.vw_cell.specs.Places.{block_side, IsInBlock, LiesIn, octant_of};
 ghost use Rattle.node_words.specs.descent.Roots.{HasBlock, ForBlock, cells_of};
 ghost use Rattle.node_words.specs.descent.Parts.{EndsBy};
-ghost use Rattle.measure.specs.Widening.{ForPlace};
+ghost use Rattle.node_words.specs.descent.Answers.{AreRight};
+ghost use Rattle.measure.specs.Faces.{passes_bare};
+ghost use Rattle.measure.specs.Tallies.{IsWholeTally};
+ghost use Rattle.measure.specs.Widening.{ForCounted};
 ghost use Rattle.extract.specs.Layers.{HoldsLayer, IsLeafCorner, IsSmallLayer, leaf_corner, leaves_in};
 ghost use Rattle.extract.specs.Filling.{Fills, MeetsLayer};
 
-use node_words::{Blocks, Name, leaf_bits, octant_name};
-use vw_cell::{Block, Boxed, Cell};
+use measure::{Bare, SetCells, Subject, WholeBlock, passes_none};
+use node_words::{Answers, Blocks, Name};
+use vw_cell::{Block, Boxed, Cell, Direction};
 
 /// The leaves of the layer of a box that has its z-th layer of cells, row by row.
 pub fn gather<B: Blocks>(
@@ -28,54 +34,171 @@ pub fn gather<B: Blocks>(
     ensures rests { B.rests store.old store.new }
 {
     let mut leaves = [0; 4225];
+    let mut wholes = Answers::new();
     let at = Cell { x: 0, y: 0, z: 0 };
     let place = Block { level, at };
-    fill(store, block, place, b, (b.at.z + z) / 4, &mut leaves);
+    let subject = SetCells { block };
+    fill(
+        store,
+        &mut wholes,
+        subject,
+        place,
+        b,
+        (b.at.z + z) / 4,
+        &mut leaves,
+    );
     leaves
 }
 
-// Reads the leaves of a layer of the box that lie in a block. The words of others stay; those of
-// leaves in which nothing stands must be 0 already.
-#[cycle(fill)]
-fn fill<B: Blocks>(
+/// The same of the cells that are bare towards one direction, into words that are there. What is
+/// found of whole blocks is remembered for further calls.
+pub(crate) fn gather_bare<B: Blocks>(
     store: &mut B,
+    wholes: &mut Answers<WholeBlock<Bare>>,
+    direction: Direction,
+    level: u8,
     block: Option<Name>,
+    b: Boxed,
+    z: u16,
+    leaves: &mut [u64; 4225],
+)
+    requires level { level ≤ 10 }
+    requires block { HasBlock (B.seen store.old).held level block }
+    requires b { IsSmallLayer b }
+    requires ends { EndsBy (block_side level) b }
+    requires z { z < b.size.z }
+    requires wholes { AreRight
+        (IsWholeTally passes_bare) (B.seen store.old).held wholes.old.places }
+    ensures layer { ForBlock (B.seen store.old).held level block
+        (λ s. HoldsLayer leaves.new b ((b.at.z + z) / 4) (leaves_in b)
+        (is_bare direction (block_side level) (cells_of level s))) }
+    ensures block { HasBlock (B.seen store.new).held level block }
+    ensures wholes { AreRight
+        (IsWholeTally passes_bare) (B.seen store.old).held wholes.new.places }
+    ensures seen { B.seen store.new ≡ B.seen store.old }
+    ensures rests { B.rests store.old store.new }
+{
+    let at = Cell { x: 0, y: 0, z: 0 };
+    let place = Block { level, at };
+    let subject = Bare {
+        direction,
+        block,
+        beside: None,
+    };
+    clear(leaves, b);
+    fill(store, wholes, subject, place, b, (b.at.z + z) / 4, leaves);
+}
+
+// Makes the words of a layer of the box 0.
+fn clear(leaves: &mut [u64; 4225], b: Boxed)
+    requires b { IsSmallLayer b }
+    ensures zeros { (m : ℕ) → m < leaves_in b → slice_index leaves.new m ≡ 0 }
+{
+    for m in 0..leaves_of(b) {
+        leaves[m] = 0;
+    }
+}
+
+/// How many leaves a layer of the box has.
+pub(crate) fn leaves_of(b: Boxed) -> usize
+    requires b { IsSmallLayer b }
+    ensures number { result ≡ leaves_in b }
+    ensures few { result ≤ 4225 }
+{
+    let along = (b.at.x + b.size.x + 3) / 4 - b.at.x / 4;
+    let down = (b.at.y + b.size.y + 3) / 4 - b.at.y / 4;
+    leaves_number(down, along)
+}
+
+// As many rows of as many leaves, of no more than the greatest layer has.
+#[tactic(auto, using(crate::proofs::FillLaws::few_leaves))]
+fn leaves_number(down: u16, along: u16) -> usize
+    requires down { down ≤ 65 }
+    requires along { along ≤ 65 }
+    ensures number { result ≡ down * along }
+    ensures few { result ≤ 4225 }
+{
+    usize::from(down) * usize::from(along)
+}
+
+// Reads the leaves of a layer of the box that lie in a block, of the cells that count. The words of
+// others stay; those of leaves in which none counts must be 0 already.
+#[cycle(fill)]
+fn fill<S: Subject, B: Blocks>(
+    store: &mut B,
+    wholes: &mut Answers<WholeBlock<S>>,
+    subject: S,
     place: Block,
     b: Boxed,
     layer: u16,
     leaves: &mut [u64; 4225],
 )
     requires level { place.level ≤ 10 }
-    requires block { HasBlock (B.seen store.old).held place.level block }
+    requires block { (test : Cell → Bool)
+        × S.counts (B.seen store.old).held place.level subject test }
     requires inside { LiesIn 4096 place }
     requires corner { IsLeafCorner place.at }
     requires b { IsSmallLayer b }
     requires layer { layer < 1024 }
     requires meets { MeetsLayer place b layer }
-    ensures fills { ForPlace (B.seen store.old).held block place (λ cells. Fills
+    requires wholes { AreRight (IsWholeTally S.counts) (B.seen store.old).held wholes.old.places }
+    ensures fills { ForCounted S.counts (B.seen store.old).held subject place (λ cells. Fills
         (λ m. IsInBlock place (leaf_corner b layer m)) b layer cells leaves.old leaves.new) }
+    ensures wholes { AreRight (IsWholeTally S.counts) (B.seen store.old).held wholes.new.places }
     ensures seen { B.seen store.new ≡ B.seen store.old }
     ensures rests { B.rests store.old store.new }
 {
-    if block.is_none() {
+    if subject.is_nothing() {
         return;
     }
     if place.level == 0 {
-        let bits = leaf_bits(store, block);
+        let bits = subject.leaf(store);
         let m = number_at(place, b, layer);
         leaves[m] = bits;
         return;
     }
+    if passes_none(store, wholes, subject, place.level) {
+        return;
+    }
+    fill_octants(store, wholes, subject, place, b, layer, leaves);
+}
+
+// The same, octant by octant.
+#[cycle(fill)]
+fn fill_octants<S: Subject, B: Blocks>(
+    store: &mut B,
+    wholes: &mut Answers<WholeBlock<S>>,
+    subject: S,
+    place: Block,
+    b: Boxed,
+    layer: u16,
+    leaves: &mut [u64; 4225],
+)
+    requires level { (1 ≤ place.level) × (place.level ≤ 10) }
+    requires block { (test : Cell → Bool)
+        × S.counts (B.seen store.old).held place.level subject test }
+    requires inside { LiesIn 4096 place }
+    requires corner { IsLeafCorner place.at }
+    requires b { IsSmallLayer b }
+    requires layer { layer < 1024 }
+    requires wholes { AreRight (IsWholeTally S.counts) (B.seen store.old).held wholes.old.places }
+    ensures fills { ForCounted S.counts (B.seen store.old).held subject place (λ cells. Fills
+        (λ m. IsInBlock place (leaf_corner b layer m)) b layer cells leaves.old leaves.new) }
+    ensures wholes { AreRight (IsWholeTally S.counts) (B.seen store.old).held wholes.new.places }
+    ensures seen { B.seen store.new ≡ B.seen store.old }
+    ensures rests { B.rests store.old store.new }
+{
     for octant in 0..8u8 {
-        fill_octant(store, block, place, octant, b, layer, leaves);
+        fill_octant(store, wholes, subject, place, octant, b, layer, leaves);
     }
 }
 
 // The same of an octant, unless it has no leaf of the layer.
 #[cycle(fill)]
-fn fill_octant<B: Blocks>(
+fn fill_octant<S: Subject, B: Blocks>(
     store: &mut B,
-    block: Option<Name>,
+    wholes: &mut Answers<WholeBlock<S>>,
+    subject: S,
     place: Block,
     octant: u8,
     b: Boxed,
@@ -83,16 +206,20 @@ fn fill_octant<B: Blocks>(
     leaves: &mut [u64; 4225],
 )
     requires level { (1 ≤ place.level) × (place.level ≤ 10) }
-    requires block { HasBlock (B.seen store.old).held place.level block }
+    requires block { (test : Cell → Bool)
+        × S.counts (B.seen store.old).held place.level subject test }
     requires inside { LiesIn 4096 place }
     requires corner { IsLeafCorner place.at }
     requires octant { octant < 8 }
     requires b { IsSmallLayer b }
     requires layer { layer < 1024 }
-    ensures fills { ForPlace (B.seen store.old).held block place (λ cells. Fills
+    requires wholes { AreRight (IsWholeTally S.counts) (B.seen store.old).held wholes.old.places }
+    ensures fills { ForCounted S.counts (B.seen store.old).held subject place (λ cells. Fills
         (λ m. IsInBlock (octant_of place octant) (leaf_corner b layer m)) b layer cells
         leaves.old leaves.new) }
-    ensures block { HasBlock (B.seen store.new).held place.level block }
+    ensures block { (test : Cell → Bool)
+        × S.counts (B.seen store.new).held place.level subject test }
+    ensures wholes { AreRight (IsWholeTally S.counts) (B.seen store.old).held wholes.new.places }
     ensures seen { B.seen store.new ≡ B.seen store.old }
     ensures rests { B.rests store.old store.new }
 {
@@ -100,8 +227,8 @@ fn fill_octant<B: Blocks>(
     if !meets(inner, b, layer) {
         return;
     }
-    let child = octant_name(store, place.level, block, octant);
-    fill(store, child, inner, b, layer, leaves);
+    let child = subject.octant(store, place.level, octant);
+    fill(store, wholes, child, inner, b, layer, leaves);
 }
 
 // Whether a block has a leaf of a layer of the box.

@@ -1,16 +1,21 @@
-//! The set cells of a box as a list of voxels, and as a VOX file, over any store that can be read.
+//! The set cells of a box as a list of voxels, and as a VOX file, and what can be seen of a box, over
+//! any store that can be read.
 //!
 //! It reads a store, and takes memory for the list and the file; no file is written here. A
 //! layer's leaves are gathered once for all its rows. The list, in order, is in
-//! `specs/Listing.antt`, and the bytes of the file in `specs/Saved.antt`.
+//! `specs/Listing.antt`, the bytes of the file in `specs/Saved.antt`, and what can be seen in
+//! `specs/Surface.antt`.
 #![tactic(auto)]
 
+mod bare_layers;
 mod boxes;
 mod files;
 mod leaves;
 mod rows;
+mod surfaces;
 
 pub use boxes::cells_in;
 pub use files::box_file;
 pub use leaves::gather;
 pub use rows::{push_if, row_start, run_length};
+pub use surfaces::surface_in;

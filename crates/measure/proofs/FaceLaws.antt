@@ -128,7 +128,7 @@ next_world HighZ level s c =
     last (nat_lt (c.z + 1) (block_side level)) _ _ (has-clear level c.x c.y 0)
 
 -- what is bare in a world is so in its block, which has nothing beside it
-world_bare : (d : Direction) (held : List Tree) (level : ℕ) (block : Option Name) (t : Tree)
+pub world_bare : (d : Direction) (held : List Tree) (level : ℕ) (block : Option Name) (t : Tree)
     → IsBlockOf held level block t
     → PassesBare d held level block None
     (is_bare d (block_side level) (cells_of level (shape_of t)))

@@ -1,11 +1,12 @@
 mod LeafCounts
 mod LeafParts
 mod TallyLaws
-mod SubjectLaws
+pub mod SubjectLaws
 mod AxisLaws
 mod BareLaws
 mod BareLeaves
-mod FaceLaws
+pub mod FaceLaws
 pub mod WideningLaws
 mod PruningLaws
-mod WholeLaws
+mod ChangeLaws
+pub mod WholeLaws

@@ -9,7 +9,7 @@ use Rattle.node_words.specs.shapes.Shape.{Shape, bits_of}
 use Rattle.node_words.specs.shapes.Tree.{Tree, shape_of, child_of}
 use Rattle.node_words.proofs.OfShapes.ShapeLaws.{has-clear}
 use Rattle.node_words.proofs.OfShapes.TreeLaws.{shape_of-child}
-use Rattle.node_words.specs.descent.Roots.{IsBlockOf, IsOctantOf, ForBlock, HoldsRoot, ForWorld, cells_of}
+use Rattle.node_words.specs.descent.Roots.{IsBlockOf, IsOctantOf, HasBlock, ForBlock, HoldsRoot, ForWorld, cells_of}
 use Rattle.node_words.specs.descent.Parts.{placed}
 use Rattle.node_words.proofs.OfDescent.BlockLaws.{clear_block, root_block}
 use Rattle.node_words.proofs.OfDescent.PartLaws.{placed_in}
@@ -49,7 +49,7 @@ octant_set held level k block child test h lt octant p = record {
 }
 
 -- what is set in a block
-block_set : (held : List Tree) (level : ℕ) (block : Option Name) (t : Tree)
+pub block_set : (held : List Tree) (level : ℕ) (block : Option Name) (t : Tree)
     → IsBlockOf held level block t → PassesSet held level block (cells_of level (shape_of t))
 block_set held level block t b = record { tree = t; is_block = b; shows = λ c _. refl }
 
@@ -74,3 +74,9 @@ set_in_root held side level root name b number e n told t o =
     (subst (λ (l : ℕ). IsBlockOf held l root t) (sym e) o) in
     told (cells_of level (shape_of t)) (block_set held level name t there)
     ∙ ap (λ (l : ℕ). number_in b (cells_of l (shape_of t))) e
+
+-- what may be read has set cells, or none
+pub some_set : (held : List Tree) (level : ℕ) (block : Option Name) → HasBlock held level block
+    → (test : Cell → Bool) × PassesSet held level block test
+some_set held level block h =
+    (cells_of level (shape_of h.tree), block_set held level block h.tree h.is_block)

@@ -13,7 +13,7 @@ use Rattle.node_words.specs.descent.Answers.{AreRight}
 use Rattle.node_words.specs.descent.Parts.{EndsBy, part_in, whole_of, half_at, half_size}
 use Rattle.node_words.proofs.OfDescent.LookLaws.{twice, same_cell}
 use Rattle.measure.specs.declared.tallies.Part.{Part}
-use Rattle.measure.specs.declared.wholes.Whole.{Whole}
+use Rattle.measure.specs.declared.wholes.WholeBlock.{WholeBlock}
 use Rattle.measure.specs.Leaves.{TellsCells}
 use Rattle.measure.specs.Tallies.{Counting, in_octant, PassesNone, IsTally, IsWholeTally}
 use Rattle.measure.proofs.TallyLaws.{tallied, tallied_step, none_tallied}
@@ -67,18 +67,18 @@ whole_step counts a b c level k m n subject inner test e f h lt down told passes
     (whole_of (level - 1)) test e f refl (whole_part level k h lt) down told passes sofar
 
 pub whole_right_again : {S : Type 0} (counts : Counting S) (a b c : Seen)
-    (places : List (Option (Known (Whole S)))) → b ≡ a → c ≡ b
+    (places : List (Option (Known (WholeBlock S)))) → b ≡ a → c ≡ b
     → AreRight (IsWholeTally counts) c.held places → AreRight (IsWholeTally counts) a.held places
 whole_right_again counts a b c places e f r =
     subst (λ (s : Seen). AreRight (IsWholeTally counts) s.held places) (f ∙ e) r
 
 -- a part that is the whole has its number
 pub part_of_whole : {S : Type 0} (counts : Counting S) (held : List Tree) (level n : ℕ)
-    (subject : S) (part : Boxed) (w : Whole S) → part ≡ whole_of level
+    (subject : S) (part : Boxed) (w : WholeBlock S) → part ≡ whole_of level
     → w ≡ record { subject = subject; level = level } → IsWholeTally counts held w n
     → IsTally counts held (record { subject = subject; level = level; part = part }) n
 part_of_whole {S = S} counts held level n subject part w e f told test p =
-    let is = subst (λ (v : Whole S). IsWholeTally counts held v n) f told in
+    let is = subst (λ (v : WholeBlock S). IsWholeTally counts held v n) f told in
     is test p ∙ ap (λ (b : Boxed). number_in b test) (sym e)
 
 -- where no cell of the whole counts, none of a part does
@@ -86,7 +86,7 @@ none_counts : (b : Bool) (n : ℕ) → one_if b ≤ n → 0 ≡ n → b ≡ fals
 none_counts true n le e = absurd (omega arith)
 none_counts false n le e = refl
 
-none_passes : (level : ℕ) (test : Cell → Bool) → 0 ≡ number_in (whole_of level) test
+pub none_passes : (level : ℕ) (test : Cell → Bool) → 0 ≡ number_in (whole_of level) test
     → PassesNone level test
 none_passes level test e = record {
   each = λ c i.
@@ -100,11 +100,11 @@ none_passes level test e = record {
 }
 
 pub none_of_part : {S : Type 0} (counts : Counting S) (a b : Seen) (level n : ℕ) (subject : S)
-    (part : Boxed) (w : Whole S) → b ≡ a → w ≡ record { subject = subject; level = level } → n ≡ 0
+    (part : Boxed) (w : WholeBlock S) → b ≡ a → w ≡ record { subject = subject; level = level } → n ≡ 0
     → EndsBy (block_side level) part → IsWholeTally counts b.held w n
     → IsTally counts a.held (record { subject = subject; level = level; part = part }) 0
 none_of_part {S = S} counts a b level n subject part w e f z ends told test p =
-    let is = subst (λ (v : Whole S). IsWholeTally counts b.held v n) f told in
+    let is = subst (λ (v : WholeBlock S). IsWholeTally counts b.held v n) f told in
     let there = subst (λ (s : Seen). counts s.held level subject test) (sym e) p in
     none_tallied level part test ends (none_passes level test (sym z ∙ is test there))
 
@@ -121,7 +121,7 @@ right_before counts a b places e r =
     subst (λ (s : Seen). AreRight (IsTally counts) s.held places) e r
 
 pub whole_right_before : {S : Type 0} (counts : Counting S) (a b : Seen)
-    (places : List (Option (Known (Whole S)))) → b ≡ a
+    (places : List (Option (Known (WholeBlock S)))) → b ≡ a
     → AreRight (IsWholeTally counts) b.held places → AreRight (IsWholeTally counts) a.held places
 whole_right_before counts a b places e r =
     subst (λ (s : Seen). AreRight (IsWholeTally counts) s.held places) e r
@@ -134,7 +134,7 @@ pub leaf_tally : {S : Type 0} (counts : Counting S) (held : List Tree) (of : Par
 leaf_tally counts held of bits n z bits_are told test p =
     told test (bits_are test (subst (λ (l : ℕ). counts held l of.subject test) z p))
 
-pub whole_leaf_tally : {S : Type 0} (counts : Counting S) (held : List Tree) (of : Whole S)
+pub whole_leaf_tally : {S : Type 0} (counts : Counting S) (held : List Tree) (of : WholeBlock S)
     (bits n : ℕ) (part : Boxed) → of.level ≡ 0 → part ≡ whole_of 0
     → ((test : Cell → Bool) → counts held 0 of.subject test → TellsCells bits test)
     → ((test : Cell → Bool) → TellsCells bits test → n ≡ number_in part test)
@@ -145,7 +145,7 @@ whole_leaf_tally counts held of bits n part z e bits_are told test p =
     ∙ ap (λ (l : ℕ). number_in (whole_of l) test) (sym z)
 
 -- one more of the eight leaves of a whole block
-pub leaves_step : {S : Type 0} (counts : Counting S) (a b c : Seen) (of : Whole S) (k m n bits : ℕ)
+pub leaves_step : {S : Type 0} (counts : Counting S) (a b c : Seen) (of : WholeBlock S) (k m n bits : ℕ)
     (inner : S) (whole : Boxed) (test : Cell → Bool) → of.level ≡ 1 → b ≡ a → c ≡ b → k < 8
     → whole ≡ whole_of 0
     → ((u : Cell → Bool) → counts b.held 1 of.subject u → counts b.held 0 inner (in_octant 1 k u))

@@ -8,23 +8,27 @@ use Rattle.vw_cell.specs.declared.cells.Cell.{Cell}
 use Rattle.vw_cell.specs.declared.boxes.Boxed.{Boxed}
 use Rattle.vw_cell.specs.declared.blocks.Block.{Block}
 use Rattle.vw_cell.specs.Counts.{cell_at}
-use Rattle.vw_cell.specs.Places.{block_side, half_x, half_y, half_z, IsWithin, IsInBlock, LiesIn, octant_of, is_in_box}
+use Rattle.vw_cell.specs.Places.{block_side, half_x, half_y, half_z, IsWithin, IsInBlock, IsInWorld, LiesIn, octant_of, is_in_box}
 use Rattle.vw_cell.specs.Tests.{is_in_box_tells}
 use Rattle.node_words.specs.declared.shapes.names.Name.{Name}
-use Rattle.node_words.specs.shapes.Shape.{Shape, Clear, bits_of, bit_number, has, ShowsCells}
-use Rattle.node_words.specs.shapes.Tree.{Tree, shape_of, child_of}
-use Rattle.node_words.proofs.OfShapes.ShapeLaws.{has-clear, block_side_some}
-use Rattle.node_words.proofs.OfShapes.ShowLaws.{octant_shows, octant_has, half_below}
-use Rattle.node_words.proofs.OfShapes.TreeLaws.{shape_of-child}
+use Rattle.node_words.specs.shapes.Shape.{bit_number}
+use Rattle.node_words.specs.shapes.Tree.{Tree, shape_of}
+use Rattle.node_words.proofs.OfShapes.ShapeLaws.{block_side_some}
+use Rattle.node_words.proofs.OfShapes.ShowLaws.{octant_has, half_below}
 use Rattle.node_words.specs.kernels.Leaves.{LeafShows}
 use Rattle.node_words.specs.Held.{Seen}
 use Rattle.vw_cell.specs.Extents.{IsExtent}
-use Rattle.node_words.specs.descent.Roots.{IsBlockOf, IsOctantOf, HasBlock, ForBlock, ForWorld, cells_of}
-use Rattle.node_words.proofs.OfDescent.BlockLaws.{clear_block}
-use Rattle.node_words.proofs.OfDescent.LookLaws.{block_still, twice, root_side, same_cell}
+use Rattle.node_words.specs.descent.Roots.{IsBlockOf, ForBlock, ForWorld, cells_of}
+use Rattle.node_words.specs.descent.Parts.{placed}
+use Rattle.node_words.proofs.OfDescent.LookLaws.{twice, root_side, same_cell}
+use Rattle.node_words.proofs.OfDescent.PartLaws.{placed_in}
 use Rattle.measure.proofs.LeafCounts.{both}
+use Rattle.measure.proofs.SubjectLaws.{block_set}
 use Rattle.measure.proofs.TallyLaws.{small_side}
-use Rattle.measure.specs.Widening.{IsFound, Widens, IsSetIn, IsSetInSome, IsOther, IsOtherAt, IsSetAt, ForPlace, WidensBy, leaf_cell, bit_of}
+use Rattle.measure.specs.Leaves.{TellsCells}
+use Rattle.measure.specs.Subjects.{PassesSet}
+use Rattle.measure.specs.Tallies.{Counting, in_octant, PassesNone}
+use Rattle.measure.specs.Widening.{IsFound, Widens, IsSetIn, IsSetInSome, IsOther, IsOtherAt, IsSetAt, from_corner, ShowsPassed, ForCounted, WidensBy, leaf_cell, bit_of}
 
 -- two steps make one
 middle : (may' : Cell → Type 0) (old mid new : Option Boxed) (may : Cell → Type 0)
@@ -76,53 +80,77 @@ widens_for must may must' may' old new fewer more p = record {
 unset_set : (b : Bool) → b ≡ false → b ≡ true → ⊥
 unset_set b e f = cc
 
--- nothing is set where nothing stands
-pub nothing_widens : (held : List Tree) (block : Option Name) (place : Block) (old : Option Boxed)
-    → block ≡ None → WidensBy held block place old old
-nothing_widens held block place old e cells t b shows =
-    widens_same _ _ old (λ c m.
-    let clear : shape_of t ≡ Clear =
-    clear_block held place.level t
-    (subst (λ (n : Option Name). IsBlockOf held place.level n t) e b) in
-    let unset : cells c ≡ false =
-    sym (shows.each c m.inside)
-    ∙ ap (λ (s : Shape). has place.level s (c.x - place.at.x) (c.y - place.at.y)
-    (c.z - place.at.z)) clear ∙ has-clear place.level _ _ _ in
-    absurd (unset_set (cells c) unset m.set))
+-- a cell of a block, told from the block's corner
+abbrev told_place : Block → Cell → Cell
+told_place place c = cell_at (c.x - place.at.x) (c.y - place.at.y) (c.z - place.at.z)
 
-pub covered_widens : (held : List Tree) (block : Option Name) (place : Block) (old : Option Boxed)
-    → ((c : Cell) → IsInBlock place c → IsFound old c) → WidensBy held block place old old
-covered_widens held block place old covers cells t b shows =
+pub record IsTold (place : Block) (c : Cell) : Type 0 where
+  pub inner : Cell
+  pub inside : IsInWorld (block_side place.level) inner
+  pub same : c ≡ from_corner place inner
+
+pub told_cell : (place : Block) (c : Cell) → IsInBlock place c → IsTold place c
+told_cell place c i = record {
+  inner = told_place place c;
+  inside = record {
+    x = omega (arith, i.x.0, i.x.1);
+    y = omega (arith, i.y.0, i.y.1);
+    z = omega (arith, i.z.0, i.z.1);
+  };
+  same = same_cell c _ _ _ (omega (arith, i.x.0)) (omega (arith, i.y.0)) (omega (arith, i.z.0));
+}
+
+-- a cell that doesn't count is unset in the block
+pub passed_by : (place : Block) (test cells : Cell → Bool) (c : Cell) (t : IsTold place c)
+    → ShowsPassed place test cells → cells c ≡ test t.inner
+passed_by place test cells c t shows = ap cells t.same ∙ sym (shows.each t.inner t.inside)
+
+pub none_there : (place : Block) (test cells : Cell → Bool) (c : Cell)
+    → PassesNone place.level test → ShowsPassed place test cells → IsInBlock place c
+    → cells c ≡ false
+none_there place test cells c none shows i =
+    let t = told_cell place c i in
+    passed_by place test cells c t shows ∙ none.each t.inner t.inside
+
+-- nothing is set where nothing counts
+pub nothing_widens : {S : Type 0} (counts : Counting S) (held : List Tree) (subject : S)
+    (place : Block) (old : Option Boxed)
+    → ((test : Cell → Bool) → counts held place.level subject test → PassesNone place.level test)
+    → WidensBy counts held subject place old old
+nothing_widens counts held subject place old none cells test p shows =
+    widens_same _ _ old (λ c m. absurd
+    (unset_set (cells c) (none_there place test cells c (none test p) shows m.inside) m.set))
+
+pub covered_widens : {S : Type 0} (counts : Counting S) (held : List Tree) (subject : S)
+    (place : Block) (old : Option Boxed)
+    → ((c : Cell) → IsInBlock place c → IsFound old c) → WidensBy counts held subject place old old
+covered_widens counts held subject place old covers cells test p shows =
     widens_same _ _ old (λ c m. covers c m.inside)
 
--- the bits of a leaf show what its shape shows
-leaf_place : (level : ℕ) (s : Shape) (x y z x' y' z' : ℕ) → level ≡ 0 → x ≡ x' → y ≡ y' → z ≡ z'
-    → has level s x y z ≡ (bit_at (bits_of s) (bit_number x' y' z') == 1)
-unfolding has
-leaf_place level s x y z x' y' z' e p q r = ap (λ (l : ℕ). has l s x y z) e ∙ rw (p, q, r) refl
+-- the bits of a leaf show the cells that count in it
+pub leaf_shows : (bits : ℕ) (place : Block) (test cells : Cell → Bool) → place.level ≡ 0
+    → TellsCells bits test → ShowsPassed place test cells → LeafShows bits place cells
+leaf_shows bits place test cells e told shows =
+    let side : block_side place.level ≡ 4 = ap block_side e in
+    record {
+      each = λ x y z lx ly lz. told.each x y z lx ly lz
+          ∙ shows.each (cell_at x y z)
+          (record {
+            x = omega (arith, lx, side);
+            y = omega (arith, ly, side);
+            z = omega (arith, lz, side);
+          });
+    }
 
-pub leaf_widens : (held : List Tree) (block : Option Name) (place : Block) (bits : ℕ)
-    (old new : Option Boxed) → place.level ≡ 0 → ForBlock held 0 block (λ s. bits ≡ bits_of s)
+pub leaf_widens : {S : Type 0} (counts : Counting S) (held : List Tree) (subject : S)
+    (place : Block) (bits : ℕ) (old new : Option Boxed) → place.level ≡ 0
+    → ((test : Cell → Bool) → counts held 0 subject test → TellsCells bits test)
     → ((cells : Cell → Bool) → LeafShows bits place cells
     → Widens (IsSetIn place cells) (IsSetIn place cells) old new)
-    → WidensBy held block place old new
-leaf_widens held block place bits old new e told widens cells t b shows =
-    let at : IsBlockOf held 0 block t = subst (λ (l : ℕ). IsBlockOf held l block t) e b in
-    let side : block_side place.level ≡ 4 = ap block_side e in
-    widens cells (record {
-      each = λ x y z lx ly lz.
-          let c : Cell = cell_at (place.at.x + x) (place.at.y + y) (place.at.z + z) in
-          let inside : IsInBlock place c =
-          record {
-            x = (omega arith, omega (arith, side));
-            y =
-                (omega arith, omega (arith, side));
-            z = (omega arith, omega (arith, side));
-          } in
-          ap (λ (n : ℕ). bit_at n (bit_number x y z) == 1) (told t at)
-          ∙ sym (leaf_place place.level (shape_of t) _ _ _ x y z e (omega arith) (omega arith)
-          (omega arith)) ∙ shows.each c inside;
-    })
+    → WidensBy counts held subject place old new
+leaf_widens counts held subject place bits old new e told widens cells test p shows =
+    let at : counts held 0 subject test = subst (λ (l : ℕ). counts held l subject test) e p in
+    widens cells (leaf_shows bits place test cells e (told test at) shows)
 
 -- an octant lies in its block
 in_half : (low half i side c : ℕ) → side ≡ 2 * half → i < 2 → IsWithin (low + half * i) half c
@@ -193,34 +221,71 @@ octant_lies place child k h lt e lies =
     })
 
 -- the cells of an octant
-pub octant_widens : (a b : Seen) (block child : Option Name) (place inner : Block) (k : ℕ)
-    (old new : Option Boxed) → b ≡ a → 1 ≤ place.level → k < 8 → inner ≡ octant_of place k
-    → IsOctantOf a.held place.level block k child → WidensBy b.held child inner old new
-    → ForPlace a.held block place
-    (λ cells. Widens (IsSetIn (octant_of place k) cells) (IsSetIn place cells) old new)
-octant_widens a b block child place inner k old new e h lt is octant told cells t o shows =
-    let told' : WidensBy b.held child (octant_of place k) old new =
-    subst (λ (p : Block). WidensBy b.held child p old new) is told in
-    let below = block_still a b (place.level - 1) child (child_of t k) e (octant t o) in
-    let shown : ShowsCells (octant_of place k) (shape_of (child_of t k)) cells =
-    subst (λ (s : Shape). ShowsCells (octant_of place k) s cells) (sym (shape_of-child t k))
-    (octant_shows place (shape_of t) cells k h lt shows) in
-    widens_for _ _ _ _ old new (λ c m. m) (λ c m. octant_set_in place cells k c h lt m)
-    (told' cells (child_of t k) below shown)
+half_place : (low half i c : ℕ) → i < 2 → low + (i * half + c) ≡ low + half * i + c
+half_place low half zero c lt = omega arith
+half_place low half (suc zero) c lt = omega arith
+half_place low half (suc (suc i)) c lt = absurd (omega arith)
 
-child_block : (a b : Seen) (level k : ℕ) (block child : Option Name) → b ≡ a
-    → HasBlock a.held level block → IsOctantOf a.held level block k child
-    → HasBlock b.held (level - 1) child
-child_block a b level k block child e h octant =
+pub octant_passed : (place : Block) (test cells : Cell → Bool) (k : ℕ) → 1 ≤ place.level → k < 8
+    → ShowsPassed place test cells
+    → ShowsPassed (octant_of place k) (in_octant place.level k test) cells
+octant_passed place test cells k h lt shows =
+    let half : ℕ = block_side (place.level - 1) in
     record {
-      tree = child_of h.tree k;
-      is_block = block_still a b (level - 1) child
-          (child_of h.tree k) e (octant h.tree h.is_block);
+      each = λ c i.
+          let same : from_corner place (placed half k c) ≡ from_corner (octant_of place k) c =
+          same_cell (from_corner place (placed half k c)) _ _ _
+          (half_place place.at.x half (half_x k) c.x (omega arith))
+          (half_place place.at.y half (half_y k) c.y (omega arith))
+          (half_place place.at.z half (half_z k) c.z (omega arith)) in
+          shows.each (placed half k c) (placed_in place.level k c h lt i) ∙ ap cells same;
     }
 
-pub still_block : (a b : Seen) (level : ℕ) (block : Option Name) → b ≡ a
-    → HasBlock a.held level block → HasBlock b.held level block
-still_block a b level block e h = subst (λ (s : Seen). HasBlock s.held level block) (sym e) h
+-- what counts in an octant, after a call that changes nothing
+pub octant_counts_in : {S : Type 0} (counts : Counting S) (a b : Seen) (place inner : Block)
+    (k : ℕ) (subject child : S) (test : Cell → Bool) → b ≡ a → inner ≡ octant_of place k
+    → ((u : Cell → Bool) → counts a.held place.level subject u
+    → counts a.held (place.level - 1) child (in_octant place.level k u))
+    → counts a.held place.level subject test
+    → counts b.held inner.level child (in_octant place.level k test)
+octant_counts_in counts a b place inner k subject child test e is down p =
+    subst (λ (q : Block). counts b.held q.level child (in_octant place.level k test)) (sym is)
+    (subst (λ (s : Seen). counts s.held (place.level - 1) child (in_octant place.level k test))
+    (sym e) (down test p))
+
+pub octant_widens : {S : Type 0} (counts : Counting S) (a b : Seen) (subject child : S)
+    (place inner : Block) (k : ℕ) (old new : Option Boxed) → b ≡ a → 1 ≤ place.level → k < 8
+    → inner ≡ octant_of place k
+    → ((u : Cell → Bool) → counts a.held place.level subject u
+    → counts a.held (place.level - 1) child (in_octant place.level k u))
+    → WidensBy counts b.held child inner old new
+    → ForCounted counts a.held subject place
+    (λ cells. Widens (IsSetIn (octant_of place k) cells) (IsSetIn place cells) old new)
+octant_widens counts a b subject child place inner k old new e h lt is down told cells test p shows =
+    let told' : WidensBy counts b.held child (octant_of place k) old new =
+    subst (λ (q : Block). WidensBy counts b.held child q old new) is told in
+    let below : counts b.held (place.level - 1) child (in_octant place.level k test) =
+    octant_counts_in counts a b place (octant_of place k) k subject child test e refl down p in
+    widens_for _ _ _ _ old new (λ c m. m) (λ c m. octant_set_in place cells k c h lt m)
+    (told' cells (in_octant place.level k test) below
+    (octant_passed place test cells k h lt shows))
+
+-- what a call for an octant needs
+pub child_counts : {S : Type 0} (counts : Counting S) (a b : Seen) (place inner : Block) (k : ℕ)
+    (subject child : S) (test : Cell → Bool) → b ≡ a → inner ≡ octant_of place k
+    → ((u : Cell → Bool) → counts a.held place.level subject u
+    → counts a.held (place.level - 1) child (in_octant place.level k u))
+    → counts a.held place.level subject test
+    → (u : Cell → Bool) × counts b.held inner.level child u
+child_counts counts a b place inner k subject child test e is down p =
+    (in_octant place.level k test, octant_counts_in counts a b place inner k subject child test e is down p)
+
+-- what counts stays while what is seen of the store stays
+pub still_counts : {S : Type 0} (counts : Counting S) (a b : Seen) (level : ℕ) (subject : S)
+    (test : Cell → Bool) → b ≡ a → counts a.held level subject test
+    → counts b.held level subject test
+still_counts counts a b level subject test e p =
+    subst (λ (s : Seen). counts s.held level subject test) (sym e) p
 
 -- an octant that was passed over, and one that wasn't
 pub apart_same : (place : Block) (cells : Cell → Bool) (corner octant : ℕ) (old : Option Boxed)
@@ -431,19 +496,15 @@ leaf_found bits mask b place found e is in_mask all cells shows =
     subst (λ (f : Option Boxed). IsFound f c) (sym is) (is_in_box_tells b c inside))
 
 -- the box of a whole world
-same_place : (level : ℕ) (s : Shape) (x y z x' y' z' : ℕ) → x ≡ x' → y ≡ y' → z ≡ z'
-    → has level s x y z ≡ has level s x' y' z'
-same_place level s x y z x' y' z' p q r = rw (p, q, r) refl
-
-pub shown_root : (level : ℕ) (s : Shape)
-    → ShowsCells (record { level = level; at = cell_at 0 0 0 }) s (cells_of level s)
-shown_root level s =
+pub shown_root : (level : ℕ) (test : Cell → Bool)
+    → ShowsPassed (record { level = level; at = cell_at 0 0 0 }) test test
+shown_root level test =
     record {
-      each = λ c i. same_place level s (c.x - 0) (c.y - 0) (c.z - 0) c.x c.y c.z
-          (omega arith) (omega arith) (omega arith);
+      each = λ c i. ap test (same_cell c (0 + c.x) (0 + c.y) (0 + c.z) (omega arith) (omega arith)
+          (omega arith));
     }
 
-root_extent : (side level : ℕ) (cells : Cell → Bool) (new : Option Boxed) → side ≡ block_side level
+pub root_extent : (side level : ℕ) (cells : Cell → Bool) (new : Option Boxed) → side ≡ block_side level
     → Widens (IsSetIn (record { level = level; at = cell_at 0 0 0 }) cells)
     (IsSetIn (record { level = level; at = cell_at 0 0 0 }) cells) None new
     → IsExtent side cells new
@@ -499,11 +560,15 @@ root_extent side level cells (Some b) e p =
     }
 
 pub block_extent : (held : List Tree) (level : ℕ) (name : Option Name) (new : Option Boxed)
-    → WidensBy held name (record { level = level; at = cell_at 0 0 0 }) None new
+    → ((cells test : Cell → Bool) → PassesSet held level name test
+    → ShowsPassed (record { level = level; at = cell_at 0 0 0 }) test cells
+    → Widens (IsSetIn (record { level = level; at = cell_at 0 0 0 }) cells)
+    (IsSetIn (record { level = level; at = cell_at 0 0 0 }) cells) None new)
     → ForBlock held level name (λ s. IsExtent (block_side level) (cells_of level s) new)
 block_extent held level name new widens t o =
-    root_extent (block_side level) level (cells_of level (shape_of t)) new refl
-    (widens (cells_of level (shape_of t)) t o (shown_root level (shape_of t)))
+    let cells : Cell → Bool = cells_of level (shape_of t) in
+    root_extent (block_side level) level cells new refl
+    (widens cells cells (block_set held level name t o) (shown_root level cells))
 
 pub world_extent : (held : List Tree) (level side : ℕ) (root name : Option Name)
     (new : Option Boxed) → level ≡ side - 2 → 2 ≤ side → name ≡ root
@@ -528,10 +593,3 @@ root_lies level h =
 pub child_level : (place child : Block) (k : ℕ) → child ≡ octant_of place k
     → child.level ≡ place.level - 1
 child_level place child k e = ap (λ (b : Block). b.level) e
-
-pub child_there : (a b : Seen) (place inner : Block) (k : ℕ) (block child : Option Name) → b ≡ a
-    → inner ≡ octant_of place k → HasBlock a.held place.level block
-    → IsOctantOf a.held place.level block k child → HasBlock b.held inner.level child
-child_there a b place inner k block child e is h octant =
-    subst (λ (p : Block). HasBlock b.held p.level child) (sym is)
-    (child_block a b place.level k block child e h octant)

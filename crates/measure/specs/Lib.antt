@@ -5,3 +5,4 @@ pub mod Bare
 pub mod Faces
 pub mod Widening
 pub mod Pruning
+pub mod Changes

@@ -1,25 +1,18 @@
 -- What is remembered of blocks that can't widen a box.
-use Rattle.std.specs.Prelude.{◌≡◌, ℕ, ◌+◌, Option, List, true}
+use Rattle.std.specs.Prelude.{◌≡◌, ℕ, Bool, List, true}
 use Rattle.vw_cell.specs.declared.cells.Cell.{Cell}
 use Rattle.vw_cell.specs.declared.boxes.Boxed.{Boxed}
-use Rattle.vw_cell.specs.declared.blocks.Block.{Block}
-use Rattle.vw_cell.specs.Counts.{cell_at}
 use Rattle.vw_cell.specs.Places.{IsInBox, IsInWorld, block_side}
-use Rattle.node_words.specs.declared.shapes.names.Name.{Name}
-use Rattle.node_words.specs.shapes.Tree.{Tree, shape_of}
-use Rattle.node_words.specs.descent.Roots.{IsBlockOf, cells_of}
+use Rattle.node_words.specs.shapes.Tree.{Tree}
+use Rattle.measure.specs.Tallies.{Counting}
 use Rattle.measure.specs.declared.pruning.Within.{Within}
 
--- the cell of the world that a cell of a block is
-abbrev pub from_corner : Block → Cell → Cell
-from_corner place c = cell_at (place.at.x + c.x) (place.at.y + c.y) (place.at.z + c.z)
+-- each cell that counts in the block lies in this part of it
+pub record LiesWithinPart {S : Type 0} (counts : Counting S) (held : List Tree) (level : ℕ)
+    (subject : S) (part : Boxed) : Type 0 where
+  pub each : (test : Cell → Bool) (c : Cell) → counts held level subject test
+      → IsInWorld (block_side level) c → test c ≡ true → IsInBox part c
 
--- each set cell of what stands in the block lies in this part of it
-pub record LiesWithinPart (held : List Tree) (level : ℕ) (block : Option Name)
-    (part : Boxed) : Type 0 where
-  pub each : (t : Tree) (c : Cell) → IsBlockOf held level block t → IsInWorld (block_side level) c
-      → cells_of level (shape_of t) c ≡ true → IsInBox part c
-
--- a part that has all set cells; the number tells nothing
-abbrev pub tells_within : List Tree → Within → ℕ → Type 0
-tells_within held q n = LiesWithinPart held q.level q.block q.part
+-- a part that has all cells that count; the number tells nothing
+abbrev pub tells_within : {S : Type 0} → Counting S → List Tree → Within S → ℕ → Type 0
+tells_within counts held q n = LiesWithinPart counts held q.level q.subject q.part

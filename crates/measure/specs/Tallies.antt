@@ -6,7 +6,7 @@ use Rattle.vw_cell.specs.Counts.{number_in}
 use Rattle.node_words.specs.shapes.Tree.{Tree}
 use Rattle.node_words.specs.descent.Parts.{placed, part_in, whole_of}
 use Rattle.measure.specs.declared.tallies.Part.{Part}
-use Rattle.measure.specs.declared.wholes.Whole.{Whole}
+use Rattle.measure.specs.declared.wholes.WholeBlock.{WholeBlock}
 
 -- which cells of a block of some level count, for what a subject says of the block while some trees
 -- are held
@@ -27,7 +27,7 @@ IsTally counts held p number =
     (test : Cell → Bool) → counts held p.level p.subject test → number ≡ number_in p.part test
 
 -- the number is that of a whole block's cells that count
-abbrev pub IsWholeTally : {S : Type 0} → Counting S → List Tree → Whole S → ℕ → Type 0
+abbrev pub IsWholeTally : {S : Type 0} → Counting S → List Tree → WholeBlock S → ℕ → Type 0
 IsWholeTally counts held w number =
     (test : Cell → Bool) → counts held w.level w.subject test
     → number ≡ number_in (whole_of w.level) test

@@ -1,16 +1,15 @@
--- A box that is widened to have the set cells of one block after another.
+-- A box that is widened to have the cells that count in one block after another.
 use Rattle.std.specs.Prelude.{◌≡◌, ◌≢◌, ℕ, ◌+◌, ◌<◌, ◌-◌, ◌/◌, ◌%◌, ⊤, Bool, true, Option, Some, None, List}
 use Rattle.vw_cell.specs.declared.cells.Cell.{Cell}
 use Rattle.vw_cell.specs.declared.boxes.Boxed.{Boxed}
 use Rattle.vw_cell.specs.declared.blocks.Block.{Block}
-use Rattle.vw_cell.specs.Places.{IsInBox, IsInBlock, octant_of}
+use Rattle.vw_cell.specs.Places.{IsInBox, IsInBlock, IsInWorld, block_side, octant_of}
 use Rattle.vw_cell.specs.Counts.{cell_at}
-use Rattle.node_words.specs.declared.shapes.names.Name.{Name}
-use Rattle.node_words.specs.shapes.Shape.{ShowsCells, bit_number}
-use Rattle.node_words.specs.shapes.Tree.{Tree, shape_of}
-use Rattle.node_words.specs.descent.Roots.{IsBlockOf}
+use Rattle.node_words.specs.shapes.Shape.{bit_number}
+use Rattle.node_words.specs.shapes.Tree.{Tree}
 use Rattle.node_words.specs.descent.Parts.{EndsBy}
 use Rattle.vw_cell.specs.Extents.{LiesWithin}
+use Rattle.measure.specs.Tallies.{Counting}
 
 -- the cell lies in the box, where there is one
 abbrev pub IsFound : Option Boxed → Cell → Type 0
@@ -59,16 +58,28 @@ pub record IsOtherAt (corner n k : ℕ) : Type 0 where
   pub apart : k ≢ corner
   pub far : k ≢ 7 - corner
 
--- P of the cells of the world that what stands in a block shows there
-abbrev pub ForPlace : List Tree → Option Name → Block → ((Cell → Bool) → Type 0) → Type 0
-ForPlace held block place P =
-    (cells : Cell → Bool) (t : Tree) → IsBlockOf held place.level block t
-    → ShowsCells place (shape_of t) cells → P cells
+-- the cell of the world that a cell of a block is
+abbrev pub from_corner : Block → Cell → Cell
+from_corner place c = cell_at (place.at.x + c.x) (place.at.y + c.y) (place.at.z + c.z)
 
--- the old box is widened by the set cells of a block
-abbrev pub WidensBy : List Tree → Option Name → Block → Option Boxed → Option Boxed → Type 0
-WidensBy held block place old new =
-    ForPlace held block place (λ cells. Widens (IsSetIn place cells) (IsSetIn place cells) old new)
+-- in this block of the world just the cells that pass the test are set
+pub record ShowsPassed (place : Block) (test cells : Cell → Bool) : Type 0 where
+  pub each : (c : Cell) → IsInWorld (block_side place.level) c
+      → test c ≡ cells (from_corner place c)
+
+-- P of cells of the world of which those count in a block that a subject says
+abbrev pub ForCounted : {S : Type 0} → Counting S → List Tree → S → Block
+    → ((Cell → Bool) → Type 0) → Type 0
+ForCounted counts held subject place P =
+    (cells test : Cell → Bool) → counts held place.level subject test → ShowsPassed place test cells
+    → P cells
+
+-- the old box is widened by the cells that count in a block
+abbrev pub WidensBy : {S : Type 0} → Counting S → List Tree → S → Block → Option Boxed
+    → Option Boxed → Type 0
+WidensBy counts held subject place old new =
+    ForCounted counts held subject place
+    (λ cells. Widens (IsSetIn place cells) (IsSetIn place cells) old new)
 
 -- the cell that a bit of a leaf's block stands for
 abbrev pub leaf_cell : Block → ℕ → Cell

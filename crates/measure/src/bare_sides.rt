@@ -14,7 +14,7 @@ ghost use Rattle.measure.specs.Bare.{PassesBare, across, stays, is_next_set, bar
 
 use crate::counts::name_mark;
 use crate::tallies::{Part, Subject, tally};
-use crate::wholes::Whole;
+use crate::wholes::WholeBlock;
 use node_words::{
     Answers, Blocks, Name, Share, leaf_bits, name_of, octant_name, same_names, window_bits,
 };
@@ -38,7 +38,7 @@ pub fn faces<B: Blocks>(store: &mut B, root: Option<&Share>, side: Side, b: Boxe
 #[derive(Drop)]
 struct BareNumbers {
     parts: Answers<Part<Bare>>,
-    wholes: Answers<Whole<Bare>>,
+    wholes: Answers<WholeBlock<Bare>>,
 }
 
 // The same, of the block of a world.
@@ -107,10 +107,10 @@ ghost use Rattle.measure.specs.Faces.{passes_bare};
 /// The cells of a block that are bare towards one direction, by what stands in the block and in the
 /// one beside it.
 #[derive(Clone, Copy)]
-pub(crate) struct Bare {
-    direction: Direction,
-    block: Option<Name>,
-    beside: Option<Name>,
+pub struct Bare {
+    pub direction: Direction,
+    pub block: Option<Name>,
+    pub beside: Option<Name>,
 }
 
 impl Subject for Bare {

@@ -63,10 +63,10 @@ pub fn count<B: Blocks>(store: &mut B, root: Option<&Share>, side: Side, b: Boxe
     tally(store, &mut answers, &mut wholes, &of)
 }
 
-// The set cells of what stands in a block.
+/// The set cells of what stands in a block.
 #[derive(Clone, Copy)]
-struct SetCells {
-    block: Option<Name>,
+pub struct SetCells {
+    pub block: Option<Name>,
 }
 
 impl Subject for SetCells {

@@ -7,10 +7,12 @@ ghost use Rattle.node_words.specs.descent.Roots.{HasBlock, HoldsRoot, ForBlock, 
 ghost use Rattle.node_words.specs.descent.Answers.{AreRight};
 ghost use Rattle.node_words.specs.descent.Parts.{EndsBy};
 ghost use Rattle.measure.specs.Pruning.{tells_within};
-ghost use Rattle.measure.specs.Widening.{IsFound, EndsInside, Widens, IsSetIn, IsSetInSome, IsOther, IsOtherAt, IsSetAt, ForPlace, WidensBy};
+ghost use Rattle.measure.specs.Widening.{IsFound, EndsInside, Widens, IsSetIn, IsSetInSome, IsOther, IsOtherAt, IsSetAt, ForCounted, WidensBy};
 
+use crate::counts::SetCells;
 use crate::pruning::{Within, is_known, note};
-use node_words::{Answers, Blocks, Name, Share, box_bits, leaf_bits, name_of, octant_name};
+use crate::tallies::Subject;
+use node_words::{Answers, Blocks, Name, Share, box_bits, name_of};
 use vw_cell::{Block, Boxed, Cell, Side};
 
 /// The least box of all set cells of the root's world. `None` exactly where no cell is set.
@@ -37,162 +39,170 @@ pub fn bounds_in<B: Blocks>(store: &mut B, level: u8, block: Option<Name>) -> Op
     let mut answers = Answers::new();
     let at = Cell { x: 0, y: 0, z: 0 };
     let place = Block { level, at };
+    let subject = SetCells { block };
     let mut found = None;
-    widen(store, &mut answers, block, place, 0, &mut found);
+    widen(store, &mut answers, subject, place, 0, &mut found);
     found
 }
 
-// Widens the box by the set cells of a block. A block that can't widen the box found so far is
-// passed over: one that lies in it, and one like an earlier block that lies as far within it.
+/// Widens the box by the cells of a block that count. A block that can't widen the box found so far
+/// is passed over: one that lies in it, and one like an earlier block that lies as far within it.
 #[cycle(widen)]
-fn widen<B: Blocks>(
+pub(crate) fn widen<S: Subject, B: Blocks>(
     store: &mut B,
-    answers: &mut Answers<Within>,
-    block: Option<Name>,
+    answers: &mut Answers<Within<S>>,
+    subject: S,
     place: Block,
     corner: u8,
     found: &mut Option<Boxed>,
 )
     requires level { place.level ≤ 10 }
-    requires block { HasBlock (B.seen store.old).held place.level block }
+    requires block { (test : Cell → Bool)
+        × S.counts (B.seen store.old).held place.level subject test }
     requires inside { LiesIn 4096 place }
     requires corner { corner < 8 }
     requires found { EndsInside found.old }
-    requires answers { AreRight tells_within (B.seen store.old).held answers.old.places }
-    ensures widens { WidensBy (B.seen store.old).held block place found.old found.new }
+    requires answers { AreRight (tells_within S.counts) (B.seen store.old).held answers.old.places }
+    ensures widens { WidensBy S.counts (B.seen store.old).held subject place found.old found.new }
     ensures found { EndsInside found.new }
-    ensures answers { AreRight tells_within (B.seen store.old).held answers.new.places }
+    ensures answers { AreRight (tells_within S.counts) (B.seen store.old).held answers.new.places }
     ensures seen { B.seen store.new ≡ B.seen store.old }
     ensures rests { B.rests store.old store.new }
 {
-    if block.is_none() {
+    if subject.is_nothing() {
         return;
     }
     if covers(*found, place) {
         return;
     }
     if place.level == 0 {
-        let bits = leaf_bits(store, block);
+        let bits = subject.leaf(store);
         *found = with_leaf(bits, place, *found);
         return;
     }
-    if is_known(answers, block, place, *found) {
+    if is_known(answers, subject, place, *found) {
         return;
     }
-    widen_by_octants(store, answers, block, place, corner, found);
-    note(answers, block, place, *found);
+    widen_by_octants(store, answers, subject, place, corner, found);
+    note(answers, subject, place, *found);
 }
 
-// Widens the box by the set cells of all octants. The corner of its own block that an octant lies
-// at comes first, and the opposite one next, so the box is soon wide.
+// The same, octant by octant. The corner of its own block that an octant lies at comes first, and
+// the opposite one next, so the box is soon wide.
 #[cycle(widen)]
-fn widen_by_octants<B: Blocks>(
+fn widen_by_octants<S: Subject, B: Blocks>(
     store: &mut B,
-    answers: &mut Answers<Within>,
-    block: Option<Name>,
+    answers: &mut Answers<Within<S>>,
+    subject: S,
     place: Block,
     corner: u8,
     found: &mut Option<Boxed>,
 )
     requires level { (1 ≤ place.level) × (place.level ≤ 10) }
-    requires block { HasBlock (B.seen store.old).held place.level block }
+    requires block { (test : Cell → Bool)
+        × S.counts (B.seen store.old).held place.level subject test }
     requires inside { LiesIn 4096 place }
     requires corner { corner < 8 }
     requires found { EndsInside found.old }
-    requires answers { AreRight tells_within (B.seen store.old).held answers.old.places }
-    ensures widens { WidensBy (B.seen store.old).held block place found.old found.new }
+    requires answers { AreRight (tells_within S.counts) (B.seen store.old).held answers.old.places }
+    ensures widens { WidensBy S.counts (B.seen store.old).held subject place found.old found.new }
     ensures found { EndsInside found.new }
-    ensures answers { AreRight tells_within (B.seen store.old).held answers.new.places }
+    ensures answers { AreRight (tells_within S.counts) (B.seen store.old).held answers.new.places }
     ensures seen { B.seen store.new ≡ B.seen store.old }
     ensures rests { B.rests store.old store.new }
 {
-    widen_in(store, answers, block, place, corner, found);
-    widen_in(store, answers, block, place, 7 - corner, found);
-    widen_by_others(store, answers, block, place, corner, found);
+    widen_in(store, answers, subject, place, corner, found);
+    widen_in(store, answers, subject, place, 7 - corner, found);
+    widen_by_others(store, answers, subject, place, corner, found);
 }
 
-// Widens the box by the set cells of one octant.
+// The same of one octant.
 #[cycle(widen)]
-fn widen_in<B: Blocks>(
+fn widen_in<S: Subject, B: Blocks>(
     store: &mut B,
-    answers: &mut Answers<Within>,
-    block: Option<Name>,
+    answers: &mut Answers<Within<S>>,
+    subject: S,
     place: Block,
     octant: u8,
     found: &mut Option<Boxed>,
 )
     requires level { (1 ≤ place.level) × (place.level ≤ 10) }
-    requires block { HasBlock (B.seen store.old).held place.level block }
+    requires block { (test : Cell → Bool)
+        × S.counts (B.seen store.old).held place.level subject test }
     requires inside { LiesIn 4096 place }
     requires octant { octant < 8 }
     requires found { EndsInside found.old }
-    requires answers { AreRight tells_within (B.seen store.old).held answers.old.places }
-    ensures widens { ForPlace (B.seen store.old).held block place
+    requires answers { AreRight (tells_within S.counts) (B.seen store.old).held answers.old.places }
+    ensures widens { ForCounted S.counts (B.seen store.old).held subject place
         (λ cells. Widens (IsSetIn (octant_of place octant) cells)
         (IsSetIn place cells) found.old found.new) }
     ensures found { EndsInside found.new }
-    ensures answers { AreRight tells_within (B.seen store.old).held answers.new.places }
-    ensures block { HasBlock (B.seen store.new).held place.level block }
+    ensures answers { AreRight (tells_within S.counts) (B.seen store.old).held answers.new.places }
+    ensures block { (test : Cell → Bool)
+        × S.counts (B.seen store.new).held place.level subject test }
     ensures seen { B.seen store.new ≡ B.seen store.old }
     ensures rests { B.rests store.old store.new }
 {
-    let child = octant_name(store, place.level, block, octant);
+    let child = subject.octant(store, place.level, octant);
     widen(store, answers, child, place.child(octant), octant, found);
 }
 
-// Widens the box by the set cells of all octants but that of the corner and its opposite.
+// The same of all octants but that of the corner and its opposite.
 #[cycle(widen)]
-fn widen_by_others<B: Blocks>(
+fn widen_by_others<S: Subject, B: Blocks>(
     store: &mut B,
-    answers: &mut Answers<Within>,
-    block: Option<Name>,
+    answers: &mut Answers<Within<S>>,
+    subject: S,
     place: Block,
     corner: u8,
     found: &mut Option<Boxed>,
 )
     requires level { (1 ≤ place.level) × (place.level ≤ 10) }
-    requires block { HasBlock (B.seen store.old).held place.level block }
+    requires block { (test : Cell → Bool)
+        × S.counts (B.seen store.old).held place.level subject test }
     requires inside { LiesIn 4096 place }
     requires corner { corner < 8 }
     requires found { EndsInside found.old }
-    requires answers { AreRight tells_within (B.seen store.old).held answers.old.places }
-    ensures widens { ForPlace (B.seen store.old).held block place
+    requires answers { AreRight (tells_within S.counts) (B.seen store.old).held answers.old.places }
+    ensures widens { ForCounted S.counts (B.seen store.old).held subject place
         (λ cells. Widens (IsSetInSome place cells (IsOther corner 8))
         (IsSetIn place cells) found.old found.new) }
     ensures found { EndsInside found.new }
-    ensures answers { AreRight tells_within (B.seen store.old).held answers.new.places }
+    ensures answers { AreRight (tells_within S.counts) (B.seen store.old).held answers.new.places }
     ensures seen { B.seen store.new ≡ B.seen store.old }
     ensures rests { B.rests store.old store.new }
 {
     for octant in 0..8u8 {
-        widen_apart(store, answers, block, place, corner, octant, found);
+        widen_apart(store, answers, subject, place, corner, octant, found);
     }
 }
 
-// Widens the box by the set cells of one octant, if it isn't that of the corner or its opposite.
+// The same of one octant, if it isn't that of the corner or its opposite.
 #[cycle(widen)]
-fn widen_apart<B: Blocks>(
+fn widen_apart<S: Subject, B: Blocks>(
     store: &mut B,
-    answers: &mut Answers<Within>,
-    block: Option<Name>,
+    answers: &mut Answers<Within<S>>,
+    subject: S,
     place: Block,
     corner: u8,
     octant: u8,
     found: &mut Option<Boxed>,
 )
     requires level { (1 ≤ place.level) × (place.level ≤ 10) }
-    requires block { HasBlock (B.seen store.old).held place.level block }
+    requires block { (test : Cell → Bool)
+        × S.counts (B.seen store.old).held place.level subject test }
     requires inside { LiesIn 4096 place }
     requires corner { corner < 8 }
     requires octant { octant < 8 }
     requires found { EndsInside found.old }
-    requires answers { AreRight tells_within (B.seen store.old).held answers.old.places }
-    ensures widens { ForPlace (B.seen store.old).held block place
+    requires answers { AreRight (tells_within S.counts) (B.seen store.old).held answers.old.places }
+    ensures widens { ForCounted S.counts (B.seen store.old).held subject place
         (λ cells. Widens (IsSetInSome place cells (IsOtherAt corner octant))
         (IsSetIn place cells) found.old found.new) }
     ensures found { EndsInside found.new }
-    ensures answers { AreRight tells_within (B.seen store.old).held answers.new.places }
-    ensures block { HasBlock (B.seen store.new).held place.level block }
+    ensures answers { AreRight (tells_within S.counts) (B.seen store.old).held answers.new.places }
+    ensures block { (test : Cell → Bool)
+        × S.counts (B.seen store.new).held place.level subject test }
     ensures seen { B.seen store.new ≡ B.seen store.old }
     ensures rests { B.rests store.old store.new }
 {
@@ -202,7 +212,7 @@ fn widen_apart<B: Blocks>(
     if octant == 7 - corner {
         return;
     }
-    widen_in(store, answers, block, place, octant, found);
+    widen_in(store, answers, subject, place, octant, found);
 }
 
 // Whether the box has each cell of the block.

@@ -3,53 +3,53 @@ ghost use Rattle.vw_cell.specs.Places.{LiesIn, IsInBox, IsInWorld, IsWithin, blo
 ghost use Rattle.node_words.specs.shapes.Tree.{Tree};
 ghost use Rattle.node_words.specs.descent.Answers.{AreRight};
 ghost use Rattle.node_words.specs.descent.Parts.{EndsBy};
-ghost use Rattle.measure.specs.Widening.{EndsInside, WidensBy};
-ghost use Rattle.measure.specs.Pruning.{from_corner, tells_within};
+ghost use Rattle.measure.specs.Widening.{EndsInside, WidensBy, from_corner};
+ghost use Rattle.measure.specs.Pruning.{tells_within};
 
-use crate::counts::name_mark;
-use crate::tallies::part_mark;
-use node_words::{Answers, Name, Query, same_boxes, same_names};
+use crate::tallies::{Subject, part_mark};
+use node_words::{Answers, Query, same_boxes};
 use vw_cell::{Block, Boxed, Cell};
 
-/// What stands in a block, and a part of the block that has all of its set cells.
+/// What stands in a block, and a part of the block that has all of its cells that count.
 #[derive(Clone, Copy)]
-pub(crate) struct Within {
-    block: Option<Name>,
+pub(crate) struct Within<S> {
+    subject: S,
     level: u8,
     part: Boxed,
 }
 
-impl Query for Within {
-    ghost tells = { tells_within };
+impl<S: Subject> Query for Within<S> {
+    ghost tells = { tells_within S.counts };
 
-    fn is_same(&self, other: &Within) -> bool {
+    fn is_same(&self, other: &Within<S>) -> bool {
         self.level == other.level
-            && same_names(self.block, other.block)
+            && self.subject.is_same(&other.subject)
             && same_boxes(self.part, other.part)
     }
 
     fn place(&self) -> usize {
-        (name_mark(self.block) + part_mark(self.part)) % 256
+        (self.subject.mark() + part_mark(self.part)) % 256
     }
 }
 
-/// Whether it is remembered that the box found so far has all set cells of the block.
-pub(crate) fn is_known(
-    answers: &Answers<Within>,
-    block: Option<Name>,
+/// Whether it is remembered that the box found so far has all cells of the block that count.
+pub(crate) fn is_known<S: Subject>(
+    answers: &Answers<Within<S>>,
+    subject: S,
     place: Block,
     found: Option<Boxed>,
 ) -> bool
     requires level { place.level ≤ 10 }
     requires inside { LiesIn 4096 place }
     requires found { EndsInside found }
-    ensures { IsTrue result → (held : List Tree) → AreRight tells_within held answers.now.places
-        → WidensBy held block place found found }
+    ensures { IsTrue result → (held : List Tree)
+        → AreRight (tells_within S.counts) held answers.now.places
+        → WidensBy S.counts held subject place found found }
 {
     match found {
         Some(b) => {
             let within = Within {
-                block,
+                subject,
                 level: place.level,
                 part: part_at(b, place),
             };
@@ -59,10 +59,10 @@ pub(crate) fn is_known(
     }
 }
 
-/// Remembers that a box has all set cells of the block, by which it was widened.
-pub(crate) fn note(
-    answers: &mut Answers<Within>,
-    block: Option<Name>,
+/// Remembers that a box has all cells of the block that count, by which it was widened.
+pub(crate) fn note<S: Subject>(
+    answers: &mut Answers<Within<S>>,
+    subject: S,
     place: Block,
     wide: Option<Boxed>,
 )
@@ -70,13 +70,14 @@ pub(crate) fn note(
     requires inside { LiesIn 4096 place }
     requires wide { EndsInside wide }
     ensures { (held : List Tree) (found : Option Boxed)
-        → AreRight tells_within held answers.old.places
-        → WidensBy held block place found wide → AreRight tells_within held answers.new.places }
+        → AreRight (tells_within S.counts) held answers.old.places
+        → WidensBy S.counts held subject place found wide
+        → AreRight (tells_within S.counts) held answers.new.places }
 {
     match wide {
         Some(b) => {
             let within = Within {
-                block,
+                subject,
                 level: place.level,
                 part: part_at(b, place),
             };

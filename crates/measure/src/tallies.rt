@@ -11,12 +11,12 @@ ghost use Rattle.measure.specs.Tallies.{in_octant, PassesNone, IsTally, IsWholeT
 use crate::leaf_parts::tally_leaf_parts;
 use crate::leaves::count_leaf;
 use crate::octant_parts::either_part;
-use crate::wholes::{Whole, tally_whole};
+use crate::wholes::{WholeBlock, tally_whole};
 use node_words::{Answers, Blocks, Query, half_side, is_empty, part_of, same_boxes, whole_block};
 use vw_cell::Boxed;
 
 /// What stands in a block, and with it which of the block's cells count.
-pub(crate) trait Subject: Copy {
+pub trait Subject: Copy {
     /// The cells that count in a block of this level, while these trees are held.
     ghost counts: { List Tree → ℕ → Self → (Cell → Bool) → Type 0 };
 
@@ -102,7 +102,7 @@ pub(crate) fn part_mark(part: Boxed) -> usize
 pub(crate) fn tally<S: Subject, B: Blocks>(
     store: &mut B,
     answers: &mut Answers<Part<S>>,
-    wholes: &mut Answers<Whole<S>>,
+    wholes: &mut Answers<WholeBlock<S>>,
     of: &Part<S>,
 ) -> u64
     requires level { of.now.level ≤ 10 }
@@ -131,7 +131,7 @@ pub(crate) fn tally<S: Subject, B: Blocks>(
 fn tally_some<S: Subject, B: Blocks>(
     store: &mut B,
     answers: &mut Answers<Part<S>>,
-    wholes: &mut Answers<Whole<S>>,
+    wholes: &mut Answers<WholeBlock<S>>,
     of: &Part<S>,
 ) -> u64
     requires level { of.now.level ≤ 10 }
@@ -168,20 +168,20 @@ fn tally_some<S: Subject, B: Blocks>(
 }
 
 // The whole block of which this is a part.
-fn block_of<S: Subject>(of: &Part<S>) -> Whole<S>
+fn block_of<S: Subject>(of: &Part<S>) -> WholeBlock<S>
     ensures { result ≡ record { subject = of.now.subject; level = of.now.level } }
 {
-    Whole {
+    WholeBlock {
         subject: of.subject,
         level: of.level,
     }
 }
 
-// Whether no cell of the part counts since none of its block does. It is asked only where two
-// octants say the same, as of a block that is alike everywhere, and may miss that none does.
-fn has_none<S: Subject, B: Blocks>(
+/// Whether no cell of the part counts since none of its block does. It is asked only where two
+/// octants say the same, as of a block that is alike everywhere, and may miss that none does.
+pub(crate) fn has_none<S: Subject, B: Blocks>(
     store: &mut B,
-    wholes: &mut Answers<Whole<S>>,
+    wholes: &mut Answers<WholeBlock<S>>,
     of: &Part<S>,
 ) -> bool
     requires level { (1 ≤ of.now.level) × (of.now.level ≤ 10) }
@@ -214,7 +214,7 @@ fn has_none<S: Subject, B: Blocks>(
 }
 
 // Whether the first and the last octant say the same.
-fn has_alike_octants<S: Subject, B: Blocks>(store: &mut B, of: Whole<S>) -> bool
+fn has_alike_octants<S: Subject, B: Blocks>(store: &mut B, of: WholeBlock<S>) -> bool
     requires level { 1 ≤ of.level }
     requires block { (test : Cell → Bool)
         × S.counts (B.seen store.old).held of.level of.subject test }
@@ -233,7 +233,7 @@ fn has_alike_octants<S: Subject, B: Blocks>(store: &mut B, of: Whole<S>) -> bool
 fn tally_octants<S: Subject, B: Blocks>(
     store: &mut B,
     answers: &mut Answers<Part<S>>,
-    wholes: &mut Answers<Whole<S>>,
+    wholes: &mut Answers<WholeBlock<S>>,
     of: &Part<S>,
 ) -> u64
     requires level { (1 ≤ of.now.level) × (of.now.level ≤ 10) }
@@ -266,7 +266,7 @@ fn tally_octants<S: Subject, B: Blocks>(
 fn tally_octant<S: Subject, B: Blocks>(
     store: &mut B,
     answers: &mut Answers<Part<S>>,
-    wholes: &mut Answers<Whole<S>>,
+    wholes: &mut Answers<WholeBlock<S>>,
     of: &Part<S>,
     octant: u8,
     part: Boxed,

@@ -9,15 +9,15 @@ use node_words::{Answers, Blocks, Query, whole_block};
 
 /// A whole block of some level, and what stands in it.
 #[derive(Clone, Copy)]
-pub(crate) struct Whole<S> {
+pub struct WholeBlock<S> {
     pub(crate) subject: S,
     pub(crate) level: u8,
 }
 
-impl<S: Subject> Query for Whole<S> {
+impl<S: Subject> Query for WholeBlock<S> {
     ghost tells = { IsWholeTally S.counts };
 
-    fn is_same(&self, other: &Whole<S>) -> bool {
+    fn is_same(&self, other: &WholeBlock<S>) -> bool {
         self.level == other.level && self.subject.is_same(&other.subject)
     }
 
@@ -32,8 +32,8 @@ impl<S: Subject> Query for Whole<S> {
 #[cycle(tally_whole)]
 pub(crate) fn tally_whole<S: Subject, B: Blocks>(
     store: &mut B,
-    answers: &mut Answers<Whole<S>>,
-    of: Whole<S>,
+    answers: &mut Answers<WholeBlock<S>>,
+    of: WholeBlock<S>,
 ) -> u64
     requires level { of.level ≤ 10 }
     requires block { (test : Cell → Bool)
@@ -54,8 +54,8 @@ pub(crate) fn tally_whole<S: Subject, B: Blocks>(
 #[cycle(tally_whole)]
 fn tally_something<S: Subject, B: Blocks>(
     store: &mut B,
-    answers: &mut Answers<Whole<S>>,
-    of: Whole<S>,
+    answers: &mut Answers<WholeBlock<S>>,
+    of: WholeBlock<S>,
 ) -> u64
     requires level { of.level ≤ 10 }
     requires block { (test : Cell → Bool)
@@ -85,8 +85,8 @@ fn tally_something<S: Subject, B: Blocks>(
 #[cycle(tally_whole)]
 fn tally_whole_octants<S: Subject, B: Blocks>(
     store: &mut B,
-    answers: &mut Answers<Whole<S>>,
-    of: Whole<S>,
+    answers: &mut Answers<WholeBlock<S>>,
+    of: WholeBlock<S>,
 ) -> u64
     requires level { (1 ≤ of.level) × (of.level ≤ 10) }
     requires block { (test : Cell → Bool)
@@ -104,13 +104,13 @@ fn tally_whole_octants<S: Subject, B: Blocks>(
     let mut number = 0;
     for octant in 0..8u8 {
         let subject = of.subject.octant(store, of.level, octant);
-        number += tally_whole(store, answers, Whole { subject, level });
+        number += tally_whole(store, answers, WholeBlock { subject, level });
     }
     number
 }
 
 // The same of a block of eight leaves, which are read side by side: none waits for another.
-fn tally_leaves<S: Subject, B: Blocks>(store: &mut B, of: Whole<S>) -> u64
+fn tally_leaves<S: Subject, B: Blocks>(store: &mut B, of: WholeBlock<S>) -> u64
     requires level { of.level ≡ 1 }
     requires block { (test : Cell → Bool)
         × S.counts (B.seen store.old).held of.level of.subject test }

@@ -1,5 +1,5 @@
 -- Roots that a test holds.
-use Rattle.std.proofs.Common.{Bool, ◌≡◌, ℕ, ◌-◌, ◌≤◌, Some, None, Option, List, [], ◌∷◌, refl, sym, ◌∙◌, ap, arith}
+use Rattle.std.proofs.Common.{Bool, ◌≡◌, ℕ, ◌-◌, ◌≤◌, Some, None, Option, List, [], ◌∷◌, refl, sym, subst, ◌∙◌, ap, arith}
 use Rattle.std.specs.Prelude.{IfSome}
 use Rattle.vw_cell.specs.declared.cells.Cell.{Cell}
 use Rattle.node_words.specs.declared.shapes.names.Name.{Name}
@@ -69,6 +69,11 @@ pub two_new : (held : List Tree) (side : ℕ) (old new : Option Name)
     → HoldsTwo held (side - 2) old new → HoldsRoot held side new
 two_new held side old new h =
     root_held held side new h.after h.is_new (λ f. omega (arith, h.weighs f))
+
+-- both are held after a call that changes nothing
+pub two_still : (a b : Seen) (level : ℕ) (old new : Option Name) → b ≡ a
+    → HoldsTwo a.held level old new → HoldsTwo b.held level old new
+two_still a b level old new e h = subst (λ (s : Seen). HoldsTwo s.held level old new) (sym e) h
 
 -- a version came
 pub rebuilt_two : (old new : Seen) (side : ℕ) (root name : Option Name)

@@ -1,7 +1,7 @@
 ghost use Rattle.std.specs.Prelude.{◌≡◌, option_copied};
 ghost use Rattle.node_words.specs.descent.Roots.{HoldsRoot};
 
-use extract::cells_in;
+use extract::{cells_in, surface_in};
 use history_model::Question;
 use measure::{bounds, count, faces, get};
 use node_words::{Blocks, Share};
@@ -82,6 +82,27 @@ pub(crate) fn list_cells<B: Blocks>(
     }
     match Boxed::new(b.at, b.size, side) {
         Some(b) => cells_in(store, root, side, b, into).is_ok(),
+        None => false,
+    }
+}
+
+// Appends the cells of the box that can be seen, where it fits the world and there is memory.
+pub(crate) fn list_surface<B: Blocks>(
+    store: &mut B,
+    root: Option<&Share>,
+    side: Side,
+    b: Boxed,
+    into: &mut Vec<Voxel>,
+) -> bool
+    requires root { HoldsRoot (B.seen store.old).held side (option_copied root) }
+    ensures seen { B.seen store.new ≡ B.seen store.old }
+    ensures rests { B.rests store.old store.new }
+{
+    if b.size.x > 256 || b.size.y > 256 || b.size.z > 256 {
+        return false;
+    }
+    match Boxed::new(b.at, b.size, side) {
+        Some(b) => surface_in(store, root, side, b, into).is_ok(),
         None => false,
     }
 }

@@ -1,10 +1,11 @@
 ghost use Rattle.std.specs.Prelude.{◌≡◌, ◌<◌, ◌≤◌};
 
-use crate::worlds::asking::{Found, answer, list_cells};
+use crate::worlds::asking::{Found, answer, list_cells, list_surface};
 use crate::worlds::edits::{Refusal, version};
 use edit_stamp::Stencil;
 use edit_walk::back_if;
 use history_model::{Act, Question};
+use measure::changes;
 use node_words::{NodeStore, Plan, Steps};
 use one_store::OneStore;
 use std::alloc::{AllocError, Global};
@@ -54,6 +55,14 @@ impl StoredWorld {
     /// Does the act to the world, or leaves it as it is. A stamp is one of the stencil, whatever
     /// its number.
     pub fn edit(&mut self, act: &Act, stencil: &Stencil) -> Result<(), Refusal> {
+        match self.changed_by(act, stencil) {
+            Ok(_) => Ok(()),
+            Err(refusal) => Err(refusal),
+        }
+    }
+
+    /// The same, and the least box of all cells that the act changed.
+    pub fn changed_by(&mut self, act: &Act, stencil: &Stencil) -> Result<Option<Boxed>, Refusal> {
         edit::<Brand>(
             &mut self.store,
             self.side,
@@ -68,14 +77,17 @@ impl StoredWorld {
     /// it is.
     pub fn unstamp(&mut self, stencil: &Stencil, at: Cell) -> Result<(), Refusal> {
         let act = Act::Stamp(0, at);
-        edit::<Brand>(
+        match edit::<Brand>(
             &mut self.store,
             self.side,
             &act,
             stencil,
             false,
             Blank::new(1),
-        )
+        ) {
+            Ok(_) => Ok(()),
+            Err(refusal) => Err(refusal),
+        }
     }
 
     /// The answer to the question, where it fits the world.
@@ -87,6 +99,11 @@ impl StoredWorld {
     pub fn cells(&mut self, b: Boxed, into: &mut Vec<Voxel>) -> bool {
         cells(&mut self.store, self.side, b, into)
     }
+
+    /// Appends the cells of the box that can be seen, where it fits the world and there is memory.
+    pub fn surface(&mut self, b: Boxed, into: &mut Vec<Voxel>) -> bool {
+        surface(&mut self.store, self.side, b, into)
+    }
 }
 
 fn edit<L: Ledger>(
@@ -96,7 +113,7 @@ fn edit<L: Ledger>(
     stencil: &Stencil,
     set: bool,
     blank: Blank,
-) -> Result<(), Refusal>
+) -> Result<Option<Boxed>, Refusal>
     requires name { blank.name ≡ L.name }
     requires parts { blank.parts ≡ L.parts }
     requires some { 0 < L.parts }
@@ -110,9 +127,10 @@ fn edit<L: Ledger>(
     let old = store.take_root(0);
     match version(store, old.as_ref(), side, stencil, set, act, &mut steps) {
         Ok(new) => {
+            let changed = changes(store, old.as_ref(), new.as_ref(), side);
             back_if(store, old, &mut steps);
             store.keep_root(0, new);
-            Ok(())
+            Ok(changed)
         }
         Err(refusal) => {
             store.keep_root(0, old);
@@ -143,6 +161,19 @@ fn cells(store: &mut OneStore, side: Side, b: Boxed, into: &mut Vec<Voxel>) -> b
     }
     let root = store.take_root(0);
     let listed = list_cells(store, root.as_ref(), side, b, into);
+    store.keep_root(0, root);
+    listed
+}
+
+fn surface(store: &mut OneStore, side: Side, b: Boxed, into: &mut Vec<Voxel>) -> bool
+    requires { side ≡ store.old.words.plan.side }
+    ensures { store.new.words.plan ≡ store.old.words.plan }
+{
+    if store.held() > 0 {
+        return false;
+    }
+    let root = store.take_root(0);
+    let listed = list_surface(store, root.as_ref(), side, b, into);
     store.keep_root(0, root);
     listed
 }

@@ -64,14 +64,14 @@ const LAST: Boxed = Boxed {
 const SOME: &[Boxed] = &[FIRST, SECOND, FOURTH];
 
 // An empty world in a store with so many buckets a level, each for as many nodes.
-fn empty_world(alloc: Global, side: u32, room: u16) -> Result<StoredWorld, Fail> {
+pub(super) fn empty_world(alloc: Global, side: u32, room: u16) -> Result<StoredWorld, Fail> {
     let side = Side::new(side).ok_or("a side")?;
     let plan = Plan::even(side, room, room).ok_or("a plan")?;
     Ok(StoredWorld::empty(alloc, &plan)?)
 }
 
 // A stencil where none is stamped.
-fn any_stencil(alloc: Global) -> Option<Stencil> {
+pub(super) fn any_stencil(alloc: Global) -> Option<Stencil> {
     let nothing = Drawing {
         size: [1, 1, 1],
         voxels: Vec::new(alloc),

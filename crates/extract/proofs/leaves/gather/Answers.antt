@@ -1,10 +1,26 @@
-use Rattle.std.proofs.Common.{refl}
+use Rattle.std.proofs.Common.{refl, rules}
+use Rattle.measure.proofs.SubjectLaws.{some_set}
 use Rattle.measure.proofs.WideningLaws.{root_lies}
 use Rattle.extract.proofs.FillLaws.{layer_filled, all_zero}
 use Rattle.extract.proofs.leaves.gather.Goals as goal
 
-pub fill-requires-clause-inside : goal.fill-requires-clause-inside
-fill-requires-clause-inside g c = root_lies c.args.level c.requires.level
+pub fill-requires : goal.fill-requires
+fill-requires g c = (
+  (search rules),
+  (
+    c.requires.level,
+    (
+      some_set _ c.args.level c.args.block c.requires.block,
+      (
+        root_lies c.args.level c.requires.level,
+        (
+          (search rules),
+          (c.requires.b, ((search rules), ((search rules), c.new-wholes.ensures _))),
+        ),
+      ),
+    ),
+  ),
+)
 
 pub returns-clause-layer : goal.returns-clause-layer
 returns-clause-layer g c =

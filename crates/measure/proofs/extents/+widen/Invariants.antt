@@ -1,8 +1,8 @@
-use Rattle.std.proofs.Common.{◌≡◌, ◌+◌, ◌*◌}
-use Rattle.node_words.specs.descent.Roots.{HasBlock}
+use Rattle.std.proofs.Common.{◌≡◌, ◌+◌, ◌*◌, Bool}
+use Rattle.vw_cell.specs.declared.cells.Cell.{Cell}
 use Rattle.node_words.specs.descent.Answers.{AreRight}
 use Rattle.measure.specs.Pruning.{tells_within}
-use Rattle.measure.specs.Widening.{EndsInside, Widens, IsSetIn, IsSetInSome, IsOther, ForPlace}
+use Rattle.measure.specs.Widening.{EndsInside, Widens, IsSetIn, IsSetInSome, IsOther, ForCounted}
 use Rattle.measure.proofs.extents.+widen.Given as goal
 
 abbrev pub decreases-widen : goal.decreases-widen
@@ -23,13 +23,15 @@ decreases-widen_in g l = 5 * l.place.level
 abbrev pub invariant-widen_by_others-loop-octant : goal.invariant-widen_by_others-loop-octant
 invariant-widen_by_others-loop-octant g l =
     let seen = g.B.Blocks.seen in
+    let counts = g.S.Subject.counts in
     record {
-      widens : ForPlace (seen l.fn.store).held l.fn.block l.fn.place
+      widens : ForCounted counts (seen l.fn.store).held l.fn.subject l.fn.place
           (λ cells. Widens (IsSetInSome l.fn.place cells (IsOther l.fn.corner l.octant))
           (IsSetIn l.fn.place cells) l.fn.found l.found);
       ends : EndsInside l.found;
-      right : AreRight tells_within (seen l.fn.store).held l.answers.places;
-      block : HasBlock (seen l.store).held l.fn.place.level l.fn.block;
+      right : AreRight (tells_within counts) (seen l.fn.store).held l.answers.places;
+      block : (test : Cell → Bool)
+          × counts (seen l.store).held l.fn.place.level l.fn.subject test;
       same : seen l.store ≡ seen l.fn.store;
       rests : g.B.Blocks.rests l.fn.store l.store;
     }

@@ -1,0 +1,253 @@
+ghost use Rattle.std.specs.Prelude.{◌≡◌, ℕ, ◌+◌, ◌*◌, ◌/◌, ◌<◌, ◌≤◌, slice_index};
+ghost use Rattle.vw_cell.specs.Places.{block_side, IsInWorld};
+ghost use Rattle.vw_cell.specs.Faces.{is_bare};
+ghost use Rattle.node_words.specs.descent.Answers.{AreRight};
+ghost use Rattle.node_words.specs.descent.Parts.{EndsBy};
+ghost use Rattle.node_words.specs.descent.Roots.{HasBlock, ForBlock, cells_of};
+ghost use Rattle.measure.specs.Faces.{passes_bare};
+ghost use Rattle.measure.specs.Tallies.{IsWholeTally};
+ghost use Rattle.extract.specs.Layers.{HoldsLayer, IsSmallLayer, leaves_in};
+ghost use Rattle.extract.specs.BareLayers.{HoldsBare, HoldsSlab, CountsBlank, IsAny, IsBlank, leaf_at, leaf_sides};
+
+use crate::leaves::{gather_bare, leaves_of};
+use measure::{Bare, WholeBlock};
+use node_words::{Answers, Blocks, Name, leaf_has};
+use vw_cell::{Boxed, Cell, Direction};
+
+/// The leaves of a layer of a box, row by row, by the cells that are bare towards each direction.
+#[derive(Drop)]
+pub(crate) struct BareLayer {
+    low_x: [u64; 4225],
+    high_x: [u64; 4225],
+    low_y: [u64; 4225],
+    high_y: [u64; 4225],
+    low_z: [u64; 4225],
+    high_z: [u64; 4225],
+}
+
+/// One of these leaves.
+#[derive(Clone, Copy)]
+pub(crate) struct BareLeaf {
+    low_x: u64,
+    high_x: u64,
+    low_y: u64,
+    high_y: u64,
+    low_z: u64,
+    high_z: u64,
+}
+
+/// The leaves of a layer, and how many from each on have no cell with a bare side.
+#[derive(Drop)]
+pub(crate) struct Slab {
+    pub(crate) words: BareLayer,
+    pub(crate) blanks: [u8; 4225],
+}
+
+impl Slab {
+    /// Words that tell nothing yet.
+    pub(crate) fn new() -> Slab {
+        Slab {
+            words: BareLayer {
+                low_x: [0; 4225],
+                high_x: [0; 4225],
+                low_y: [0; 4225],
+                high_y: [0; 4225],
+                low_z: [0; 4225],
+                high_z: [0; 4225],
+            },
+            blanks: [0; 4225],
+        }
+    }
+}
+
+/// Reads the layer of a box that has its z-th layer of cells.
+pub(crate) fn gather_slab<B: Blocks>(
+    store: &mut B,
+    wholes: &mut Answers<WholeBlock<Bare>>,
+    level: u8,
+    block: Option<Name>,
+    b: Boxed,
+    z: u16,
+    slab: &mut Slab,
+)
+    requires level { level ≤ 10 }
+    requires block { HasBlock (B.seen store.old).held level block }
+    requires b { IsSmallLayer b }
+    requires ends { EndsBy (block_side level) b }
+    requires z { z < b.size.z }
+    requires wholes { AreRight
+        (IsWholeTally passes_bare) (B.seen store.old).held wholes.old.places }
+    ensures layer { ForBlock (B.seen store.old).held level block
+        (λ s. HoldsSlab slab.new b ((b.at.z + z) / 4) (block_side level) (cells_of level s)) }
+    ensures block { HasBlock (B.seen store.new).held level block }
+    ensures wholes { AreRight
+        (IsWholeTally passes_bare) (B.seen store.old).held wholes.new.places }
+    ensures seen { B.seen store.new ≡ B.seen store.old }
+    ensures rests { B.rests store.old store.new }
+{
+    gather_sides(store, wholes, level, block, b, z, &mut slab.words);
+    count_blanks(&slab.words, leaves_of(b), &mut slab.blanks);
+}
+
+// Counts for each of the first leaves how many from it on have no cell with a bare side.
+fn count_blanks(words: &BareLayer, n: usize, blanks: &mut [u8; 4225])
+    requires { n ≤ 4225 }
+    ensures { CountsBlank words.now blanks.new n }
+{
+    let mut run = 0;
+    let mut m = n;
+    while m > 0 {
+        m -= 1;
+        run = blank_run(leaf_of(words, m), run);
+        blanks[m] = run;
+    }
+}
+
+// How many leaves from one on are blank, where so many behind it are.
+fn blank_run(leaf: BareLeaf, behind: u8) -> u8
+    ensures within { result ≤ behind + 1 }
+    ensures blank { 1 ≤ result → IsBlank leaf }
+{
+    if any_of(leaf) == 0 {
+        behind.saturating_add(1)
+    } else {
+        0
+    }
+}
+
+// Reads the words of the layer of a box that has its z-th layer of cells.
+fn gather_sides<B: Blocks>(
+    store: &mut B,
+    wholes: &mut Answers<WholeBlock<Bare>>,
+    level: u8,
+    block: Option<Name>,
+    b: Boxed,
+    z: u16,
+    words: &mut BareLayer,
+)
+    requires level { level ≤ 10 }
+    requires block { HasBlock (B.seen store.old).held level block }
+    requires b { IsSmallLayer b }
+    requires ends { EndsBy (block_side level) b }
+    requires z { z < b.size.z }
+    requires wholes { AreRight
+        (IsWholeTally passes_bare) (B.seen store.old).held wholes.old.places }
+    ensures layer { ForBlock (B.seen store.old).held level block
+        (λ s. HoldsBare words.new b ((b.at.z + z) / 4) (block_side level) (cells_of level s)) }
+    ensures block { HasBlock (B.seen store.new).held level block }
+    ensures wholes { AreRight
+        (IsWholeTally passes_bare) (B.seen store.old).held wholes.new.places }
+    ensures seen { B.seen store.new ≡ B.seen store.old }
+    ensures rests { B.rests store.old store.new }
+{
+    gather_bare(
+        store,
+        wholes,
+        Direction::LowX,
+        level,
+        block,
+        b,
+        z,
+        &mut words.low_x,
+    );
+    gather_bare(
+        store,
+        wholes,
+        Direction::HighX,
+        level,
+        block,
+        b,
+        z,
+        &mut words.high_x,
+    );
+    gather_bare(
+        store,
+        wholes,
+        Direction::LowY,
+        level,
+        block,
+        b,
+        z,
+        &mut words.low_y,
+    );
+    gather_bare(
+        store,
+        wholes,
+        Direction::HighY,
+        level,
+        block,
+        b,
+        z,
+        &mut words.high_y,
+    );
+    gather_bare(
+        store,
+        wholes,
+        Direction::LowZ,
+        level,
+        block,
+        b,
+        z,
+        &mut words.low_z,
+    );
+    gather_bare(
+        store,
+        wholes,
+        Direction::HighZ,
+        level,
+        block,
+        b,
+        z,
+        &mut words.high_z,
+    );
+}
+
+/// The words of one leaf.
+#[inline(always)]
+pub(crate) fn leaf_of(words: &BareLayer, m: usize) -> BareLeaf
+    requires { m < 4225 }
+    ensures { result ≡ leaf_at words.now m }
+{
+    BareLeaf {
+        low_x: words.low_x[m],
+        high_x: words.high_x[m],
+        low_y: words.low_y[m],
+        high_y: words.high_y[m],
+        low_z: words.low_z[m],
+        high_z: words.high_z[m],
+    }
+}
+
+/// The cells of the leaf that have a bare side.
+#[inline(always)]
+#[tactic(auto, using(crate::proofs::SurfaceLaws::any_is))]
+pub(crate) fn any_of(leaf: BareLeaf) -> u64
+    ensures any { IsAny leaf result }
+    ensures blank { result ≡ 0 → IsBlank leaf }
+{
+    let x = leaf.low_x | leaf.high_x;
+    let y = leaf.low_y | leaf.high_y;
+    let z = leaf.low_z | leaf.high_z;
+    x | y | z
+}
+
+/// The bare sides of a cell of the leaf.
+#[inline(always)]
+pub(crate) fn sides_at(leaf: BareLeaf, c: Cell) -> u8
+    requires { IsInWorld 4 c }
+    ensures { result ≡ leaf_sides leaf c }
+{
+    let low = one_if(leaf_has(leaf.low_x, c)) + 2 * one_if(leaf_has(leaf.high_x, c));
+    let middle = 4 * one_if(leaf_has(leaf.low_y, c)) + 8 * one_if(leaf_has(leaf.high_y, c));
+    let high = 16 * one_if(leaf_has(leaf.low_z, c)) + 32 * one_if(leaf_has(leaf.high_z, c));
+    low + middle + high
+}
+
+fn one_if(set: bool) -> u8
+    ensures value { result ≡ one_if set }
+    ensures bound { result ≤ 1 }
+{
+    if set { 1 } else { 0 }
+}
+
+ghost use Rattle.vw_cell.specs.Sums.{one_if};

@@ -1,0 +1,297 @@
+ghost use Rattle.std.specs.Prelude.{◌≡◌, ℕ, ◌+◌, ◌-◌, ◌*◌, ◌/◌, ◌<◌, ◌≤◌, ◌^◌, ◌++◌, take, length, Bool, OnOk, OnErr, option_copied};
+ghost use Rattle.vw_cell.specs.declared.cells.Cell.{Cell};
+ghost use Rattle.vw_cell.specs.Places.{FitsAt, IsInWorld, block_side};
+ghost use Rattle.node_words.specs.descent.Answers.{AreRight};
+ghost use Rattle.node_words.specs.descent.Parts.{EndsBy};
+ghost use Rattle.node_words.specs.descent.Roots.{HasBlock, HoldsRoot, ForBlock, ForWorld, cells_of};
+ghost use Rattle.measure.specs.Faces.{passes_bare};
+ghost use Rattle.measure.specs.Tallies.{IsWholeTally};
+ghost use Rattle.extract.specs.Listing.{voxels_joined};
+ghost use Rattle.extract.specs.Layers.{IsRow, IsSmallLayer, HasRoom, AppendsVoxels, leaves_along, leaves_in};
+ghost use Rattle.extract.specs.Surface.{bare_sides_of, layer_of_sides, row_of_sides, surface_of_box, voxel_of_sides};
+ghost use Rattle.extract.specs.BareLayers.{HoldsSlab, IsAny, leaf_sides, part_of_row, run_of_sides};
+
+use crate::bare_layers::{BareLeaf, Slab, any_of, gather_slab, leaf_of, sides_at};
+use crate::rows::{row_start, run_length};
+use measure::{Bare, WholeBlock};
+use node_words::{Answers, Blocks, Name, Share, leaf_has, name_of};
+use vox_read::Voxel;
+use vw_cell::{Boxed, Cell, Memory, Side};
+
+/// Appends the set cells of a box of the root's world at whose side an unset cell or the world's
+/// outside is, told from the box's corner, by rising z, then y, then x. Each has its bare sides in
+/// the place of its colour: bits 0 to 5 are those of -x, +x, -y, +y, -z and +z. `into` is as it was
+/// where there is no memory for that.
+pub fn surface_in<B: Blocks>(
+    store: &mut B,
+    root: Option<&Share>,
+    side: Side,
+    b: Boxed,
+    into: &mut Vec<Voxel>,
+) -> Result<(), Memory>
+    requires root { HoldsRoot (B.seen store.old).held side (option_copied root) }
+    requires inside { FitsAt b.at b.size (2 ^ side) }
+    requires small { (b.size.x ≤ 256) × (b.size.y ≤ 256) × (b.size.z ≤ 256) }
+    ensures voxels { OnOk result
+        (ForWorld (B.seen store.old).held side (option_copied root.entry)
+        (λ cells. into.new.items ≡ into.old.items ++ surface_of_box (2 ^ side) cells b)) }
+    ensures memory { OnErr result (into.new.items ≡ into.old.items) }
+    ensures seen { B.seen store.new ≡ B.seen store.old }
+    ensures rests { B.rests store.old store.new }
+{
+    let before = into.len();
+    if slabs_in(store, side.root_level(), name_of(root), b, into) {
+        return Ok(());
+    }
+    into.truncate(before);
+    Err(Memory)
+}
+
+// The same of a block. Where it answers no, the room wasn't there, and more may have been appended.
+fn slabs_in<B: Blocks>(
+    store: &mut B,
+    level: u8,
+    block: Option<Name>,
+    b: Boxed,
+    into: &mut Vec<Voxel>,
+) -> bool
+    requires level { level ≤ 10 }
+    requires block { HasBlock (B.seen store.old).held level block }
+    requires b { IsSmallLayer b }
+    requires ends { EndsBy (block_side level) b }
+    ensures voxels { IsTrue result → ForBlock (B.seen store.old).held level block
+        (λ s. into.new.items ≡ into.old.items
+        ++ surface_of_box (block_side level) (cells_of level s) b) }
+    ensures begins { take (length into.old.items) into.new.items ≡ into.old.items }
+    ensures seen { B.seen store.new ≡ B.seen store.old }
+    ensures rests { B.rests store.old store.new }
+{
+    let mut wholes = Answers::new();
+    let mut slab = Slab::new();
+    let mut z = 0;
+    while z < b.size.z {
+        let n = run_length(b.at.z + z, b.size.z - z);
+        if !slab_in(store, &mut wholes, level, block, b, z, n, &mut slab, into) {
+            return false;
+        }
+        z += n;
+    }
+    true
+}
+
+// The same of some layers of the box, which lie in one layer of leaves. Where there is no room
+// nothing is appended.
+fn slab_in<B: Blocks>(
+    store: &mut B,
+    wholes: &mut Answers<WholeBlock<Bare>>,
+    level: u8,
+    block: Option<Name>,
+    b: Boxed,
+    z: u16,
+    n: u16,
+    slab: &mut Slab,
+    into: &mut Vec<Voxel>,
+) -> bool
+    requires level { level ≤ 10 }
+    requires block { HasBlock (B.seen store.old).held level block }
+    requires b { IsSmallLayer b }
+    requires ends { EndsBy (block_side level) b }
+    requires some { 1 ≤ n }
+    requires z { z + n ≤ b.size.z }
+    requires layer { (k : ℕ) → k < n → (b.at.z + (z + k)) / 4 ≡ (b.at.z + z) / 4 }
+    requires wholes { AreRight
+        (IsWholeTally passes_bare) (B.seen store.old).held wholes.old.places }
+    ensures voxels { IsTrue result → ForBlock (B.seen store.old).held level block
+        (λ s. into.new.items ≡ into.old.items ++ voxels_joined n
+        (λ k. layer_of_sides (bare_sides_of (block_side level) (cells_of level s)) b (z + k))) }
+    ensures none { IsFalse result → into.new.items ≡ into.old.items }
+    ensures block { HasBlock (B.seen store.new).held level block }
+    ensures wholes { AreRight
+        (IsWholeTally passes_bare) (B.seen store.old).held wholes.new.places }
+    ensures seen { B.seen store.new ≡ B.seen store.old }
+    ensures rests { B.rests store.old store.new }
+{
+    let most = most_cells(n, b.size);
+    if into.reserve(most).is_err() {
+        return false;
+    }
+    gather_slab(store, wholes, level, block, b, z, slab);
+    layers_in_room(slab, b, z, n, into);
+    true
+}
+
+ghost use Rattle.std.specs.Prelude.{IsTrue, IsFalse};
+
+// How many cells so many layers of this size have.
+#[tactic(auto, using(crate::proofs::SurfaceLaws::few_cells))]
+fn most_cells(n: u16, size: Cell) -> usize
+    requires n { n ≤ 256 }
+    requires x { size.x ≤ 256 }
+    requires y { size.y ≤ 256 }
+    ensures { result ≡ n * (size.y * size.x) }
+{
+    let layer = usize::from(size.y) * usize::from(size.x);
+    usize::from(n) * layer
+}
+
+// Appends some layers of a box, which lie in one layer of leaves.
+fn layers_in_room(slab: &Slab, b: Boxed, z: u16, n: u16, into: &mut Vec<Voxel>)
+    requires b { IsSmallLayer b }
+    requires z { z + n ≤ b.size.z }
+    requires layer { (k : ℕ) → k < n → (b.at.z + (z + k)) / 4 ≡ (b.at.z + z) / 4 }
+    requires room { (side : ℕ) × (cells : Cell → Bool)
+        × HoldsSlab slab.now b ((b.at.z + z) / 4) side cells
+        × HasRoom into.old
+        (length (voxels_joined n (λ k. layer_of_sides (bare_sides_of side cells) b (z + k)))) }
+    ensures appended { (side : ℕ) (cells : Cell → Bool)
+        → HoldsSlab slab.now b ((b.at.z + z) / 4) side cells
+        → AppendsVoxels
+        (voxels_joined n (λ k. layer_of_sides (bare_sides_of side cells) b (z + k)))
+        into.old into.new }
+{
+    for k in 0..n {
+        layer_in_room(slab, b, z + k, into);
+    }
+}
+
+// Appends one layer of a box.
+fn layer_in_room(slab: &Slab, b: Boxed, z: u16, into: &mut Vec<Voxel>)
+    requires b { IsSmallLayer b }
+    requires z { z < b.size.z }
+    requires room { (side : ℕ) × (cells : Cell → Bool)
+        × HoldsSlab slab.now b ((b.at.z + z) / 4) side cells
+        × HasRoom into.old (length (layer_of_sides (bare_sides_of side cells) b z)) }
+    ensures appended { (side : ℕ) (cells : Cell → Bool)
+        → HoldsSlab slab.now b ((b.at.z + z) / 4) side cells
+        → AppendsVoxels (layer_of_sides (bare_sides_of side cells) b z) into.old into.new }
+{
+    for y in 0..b.size.y {
+        row_in_room(slab, b, z, y, into);
+    }
+}
+
+// Appends one row of a box, leaf by leaf.
+fn row_in_room(slab: &Slab, b: Boxed, z: u16, y: u16, into: &mut Vec<Voxel>)
+    requires b { IsSmallLayer b }
+    requires z { z < b.size.z }
+    requires y { y < b.size.y }
+    requires room { (side : ℕ) × (cells : Cell → Bool)
+        × HoldsSlab slab.now b ((b.at.z + z) / 4) side cells
+        × HasRoom into.old (length (row_of_sides (bare_sides_of side cells) b z y b.size.x)) }
+    ensures appended { (side : ℕ) (cells : Cell → Bool)
+        → HoldsSlab slab.now b ((b.at.z + z) / 4) side cells
+        → AppendsVoxels (row_of_sides (bare_sides_of side cells) b z y b.size.x)
+        into.old into.new }
+{
+    let row = row_start(b, y);
+    let mut p = 0;
+    while p < b.size.x {
+        p += step_in_room(slab, b, z, y, row, p, into);
+    }
+}
+
+// Appends those of the next cells of a row that lie in one leaf, or passes over leaves without a
+// bare side. It answers how many cells these are.
+fn step_in_room(
+    slab: &Slab,
+    b: Boxed,
+    z: u16,
+    y: u16,
+    row: usize,
+    p: u16,
+    into: &mut Vec<Voxel>,
+) -> u16
+    requires b { IsSmallLayer b }
+    requires z { z < b.size.z }
+    requires y { y < b.size.y }
+    requires p { p < b.size.x }
+    requires row { row ≡ ((b.at.y + y) / 4 - b.at.y / 4) * leaves_along b }
+    requires inside { row + leaves_along b ≤ leaves_in b }
+    requires few { leaves_in b ≤ 4225 }
+    requires room { (side : ℕ) × (cells : Cell → Bool)
+        × HoldsSlab slab.now b ((b.at.z + z) / 4) side cells
+        × HasRoom into.old (length (part_of_row (bare_sides_of side cells) b z y p (b.size.x - p))) }
+    ensures some { 1 ≤ result }
+    ensures within { p + result ≤ b.size.x }
+    ensures appended { (side : ℕ) (cells : Cell → Bool)
+        → HoldsSlab slab.now b ((b.at.z + z) / 4) side cells
+        → AppendsVoxels (part_of_row (bare_sides_of side cells) b z y p result)
+        into.old into.new }
+{
+    let x = b.at.x + p;
+    let m = row + usize::from(x / 4 - b.at.x / 4);
+    let left = b.size.x - p;
+    let blank = slab.blanks[m];
+    if blank > 0 {
+        return blank_cells(blank, x % 4, left);
+    }
+    let n = run_length(x, left);
+    let leaf = leaf_of(&slab.words, m);
+    let at = Cell {
+        x: x % 4,
+        y: (b.at.y + y) % 4,
+        z: (b.at.z + z) % 4,
+    };
+    run_in_room(leaf, at, n, Cell { x: p, y, z }, into);
+    n
+}
+
+// How many of the next cells lie in so many leaves, of the first of which the cells from one on are
+// left.
+fn blank_cells(blank: u8, from: u16, left: u16) -> u16
+    requires blank { 1 ≤ blank }
+    requires from { from < 4 }
+    requires left { 1 ≤ left }
+    ensures some { 1 ≤ result }
+    ensures within { result ≤ left }
+    ensures leaves { from + result ≤ 4 * blank }
+{
+    (4 * u16::from(blank) - from).min(left)
+}
+
+// Appends the cells of a row of a leaf that have bare sides.
+fn run_in_room(leaf: BareLeaf, at: Cell, n: u16, to: Cell, into: &mut Vec<Voxel>)
+    requires row { IsRow 4 at n }
+    requires to { (to.x + n ≤ 256) × (to.y < 256) × (to.z < 256) }
+    requires room { HasRoom into.old (length (run_of_sides leaf at n to)) }
+    ensures { AppendsVoxels (run_of_sides leaf at n to) into.old into.new }
+{
+    let any = any_of(leaf);
+    for p in 0..n {
+        let c = Cell { x: at.x + p, ..at };
+        cell_in_room(leaf, any, c, Cell { x: to.x + p, ..to }, into);
+    }
+}
+
+// Appends one cell, if it has a bare side.
+#[inline(always)]
+fn cell_in_room(leaf: BareLeaf, any: u64, c: Cell, to: Cell, into: &mut Vec<Voxel>)
+    requires any { IsAny leaf any }
+    requires c { IsInWorld 4 c }
+    requires to { (to.x < 256) × (to.y < 256) × (to.z < 256) }
+    requires room { HasRoom into.old (length (voxel_of_sides (leaf_sides leaf c) to.x to.y to.z)) }
+    ensures { AppendsVoxels (voxel_of_sides (leaf_sides leaf c) to.x to.y to.z) into.old into.new }
+{
+    if !leaf_has(any, c) {
+        return;
+    }
+    let sides = sides_at(leaf, c);
+    push_sides(sides, to, into);
+}
+
+// Appends a voxel where a side is bare.
+fn push_sides(sides: u8, c: Cell, into: &mut Vec<Voxel>)
+    requires c { (c.x < 256) × (c.y < 256) × (c.z < 256) }
+    requires room { HasRoom into.old (length (voxel_of_sides sides c.x c.y c.z)) }
+    ensures { AppendsVoxels (voxel_of_sides sides c.x c.y c.z) into.old into.new }
+{
+    if sides == 0 {
+        return;
+    }
+    into.push_reserved(Voxel {
+        x: c.x as u8,
+        y: c.y as u8,
+        z: c.z as u8,
+        colour: sides,
+    });
+}
