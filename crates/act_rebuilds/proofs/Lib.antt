@@ -1,5 +1,4 @@
 pub mod StampActs
-pub mod OneAct
 pub mod PlainActs
 pub mod TintedActs
 pub mod ListLaws

@@ -1,5 +1,5 @@
 -- An act without a tint is made at once, of the world's own cells.
-use Rattle.std.proofs.Common.{◌≡◌, ℕ, ◌-◌, ◌^◌, ◌≤◌, true, false, Option, List, Ok, Err, refl, subst, arith}
+use Rattle.std.proofs.Common.{◌≡◌, ℕ, ◌-◌, ◌^◌, ◌≤◌, true, false, Option, List, Ok, Err, refl, sym, subst, arith}
 use Rattle.std.specs.Prelude.{Result}
 use Rattle.vox_read.specs.Contents.{Content}
 use Rattle.node_words.specs.declared.shapes.names.Name.{Name}
@@ -16,7 +16,7 @@ use Rattle.history_model.specs.Stores.{edited_in, edit_parts, edit_part_number}
 use Rattle.edit_stamp.specs.Worlds.{world_shape}
 use Rattle.colour.specs.Made.{IsOfParts, GrowsBy, FailsBy}
 use Rattle.colour.specs.Edits.{RebuildsEdit, GrowsByEdit, RefusesEdit}
-use Rattle.act_rebuilds.specs.Acts.{IsOfAct, RebuildsAct, GrowsByAct, RefusesAct}
+use Rattle.act_rebuilds.specs.Acts.{IsOfAct, MakesAct, RebuildsAct, GrowsByAct, RefusesAct}
 
 no_tint : {A : Type 0} → false ≡ true → A
 no_tint e = absurd (let no : ⊥ = cc in no)
@@ -110,3 +110,33 @@ module _ (old new : Seen) (side : ℕ) (root : Option Name) (models : List Conte
   plainly_refuses (Ok name) h = tt
   plainly_refuses (Err full) h = λ before shows.
       fails_by before full.level full.bucket (h before shows)
+
+  pub plainly_makes : (result : Result (Option Name) Full)
+      → RebuildsEdit old side root (edited models act) result new
+      → GrowsByEdit old side root (edited models act) result new
+      → RefusesEdit old side root (edited models act) result new
+      → MakesAct old side root models act result new
+  plainly_makes (Ok name) rebuilds grows refuses = λ before shows. record {
+    came = plainly_rebuilds (Ok name) rebuilds before shows;
+    grows = grows_by before (grows before shows);
+  }
+  plainly_makes (Err full) rebuilds grows refuses = λ before shows.
+      fails_by before full.level full.bucket (refuses before shows)
+
+-- of an act that is this one
+pub one_makes : (old new : Seen) (side : ℕ) (root : Option Name) (models : List Content)
+    (act one : Act) (result : Result (Option Name) Full) → act ≡ one
+    → MakesAct old side root models one result new → MakesAct old side root models act result new
+one_makes old new side root models act one result is h =
+    subst (λ (a : Act). MakesAct old side root models a result new) (sym is) h
+
+pub edit_makes : (old new : Seen) (side : ℕ) (root : Option Name) (models : List Content)
+    (act one : Act) (result : Result (Option Name) Full) → act ≡ one
+    → suits_tints false one ≡ true
+    → RebuildsEdit old side root (edited models one) result new
+    → GrowsByEdit old side root (edited models one) result new
+    → RefusesEdit old side root (edited models one) result new
+    → MakesAct old side root models act result new
+edit_makes old new side root models act one result is plain rebuilds grows refuses =
+    one_makes old new side root models act one result is
+    (plainly_makes old new side root models one plain result rebuilds grows refuses)

@@ -21,7 +21,7 @@ use Rattle.colour.specs.Inks.{Inked, DrawsTints, FitsInk, HasInk, parts_in}
 use Rattle.colour.specs.Made.{PartsMade, PartsFail}
 use Rattle.colour.proofs.Quarters.{quarter_is}
 use Rattle.colour.proofs.TintedLaws.{ink_is}
-use Rattle.act_rebuilds.specs.Acts.{IsLargeFor, room_for, RebuildsAct, GrowsByAct, RefusesAct}
+use Rattle.act_rebuilds.specs.Acts.{IsLargeFor, room_for, MakesAct}
 
 -- the stencil makes the parts of the act
 parts_as : (side : ℕ) (models : List Content) (t : TintAct) (stencil : Option Inked) → 4 ≤ side
@@ -42,26 +42,16 @@ module _ (old new : Seen) (side : ℕ) (root : Option Name) (models : List Conte
       subst (λ (parts : ℕ → World → World). PartsMade old side root parts (part_number t) name new)
       (parts_as side models t stencil large ink) made
 
-  pub tints_rebuilt : (result : Result (Option Name) Full)
+  pub tints_make : (result : Result (Option Name) Full)
       → IfOk result (λ r. PartsMade old side root (parts_in (2 ^ (side - 2)) t stencil)
       (part_number t) r new)
-      → RebuildsAct old side root models (acts.Tint t) result new
-  tints_rebuilt (Ok name) made = (made_parts name made).came
-  tints_rebuilt (Err full) made = tt
-
-  pub tints_grown : (result : Result (Option Name) Full)
-      → IfOk result (λ r. PartsMade old side root (parts_in (2 ^ (side - 2)) t stencil)
-      (part_number t) r new)
-      → GrowsByAct old side root models (acts.Tint t) result new
-  tints_grown (Ok name) made = (made_parts name made).grown
-  tints_grown (Err full) made = tt
-
-  pub tints_refused : (result : Result (Option Name) Full)
       → IfErr result (λ e. PartsFail old side root (parts_in (2 ^ (side - 2)) t stencil)
       (part_number t) e.level e.bucket new)
-      → RefusesAct old side root models (acts.Tint t) result new
-  tints_refused (Ok name) fails = tt
-  tints_refused (Err full) fails =
+      → MakesAct old side root models (acts.Tint t) result new
+  tints_make (Ok name) made fails = λ before shows.
+      let m = made_parts name made in
+      record { came = m.came before shows; grows = m.grown before shows }
+  tints_make (Err full) made fails =
       subst (λ (parts : ℕ → World → World). PartsFail old side root parts (part_number t)
       full.level full.bucket new) (parts_as side models t stencil large ink) fails
 
@@ -106,20 +96,3 @@ module _ (side : ℕ) (models : List Content) (act : Act) (t : TintAct) (is : ac
       let two : 2 ≤ side = omega (arith, one_large large) in
       ink_fits (2 ^ (side - 2)) models t stencil ink
       (subst (λ (n : ℕ). TintFits n models t) (quarter_is side (2 ^ side) two refl) (one_fits f))
-
--- what was told of the tinted act is told of it
-module _ (old new : Seen) (side : ℕ) (root : Option Name) (models : List Content) (act : Act)
-    (t : TintAct) (result : Result (Option Name) Full) (is : act ≡ acts.Tint t) where
-  pub rebuilds_tint : RebuildsAct old side root models (acts.Tint t) result new
-      → RebuildsAct old side root models act result new
-  rebuilds_tint h =
-      subst (λ (a : Act). RebuildsAct old side root models a result new) (sym is) h
-
-  pub grows_tint : GrowsByAct old side root models (acts.Tint t) result new
-      → GrowsByAct old side root models act result new
-  grows_tint h = subst (λ (a : Act). GrowsByAct old side root models a result new) (sym is) h
-
-  pub refuses_tint : RefusesAct old side root models (acts.Tint t) result new
-      → RefusesAct old side root models act result new
-  refuses_tint h =
-      subst (λ (a : Act). RefusesAct old side root models a result new) (sym is) h

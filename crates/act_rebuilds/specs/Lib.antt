@@ -1,6 +1,5 @@
 pub mod Acts
 pub mod Drawn
-pub mod Lists
 pub mod questions
 pub use Rattle.edit_stamp.specs.Drawings
 pub use Rattle.edit_copy.specs.Copies

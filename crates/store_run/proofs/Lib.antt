@@ -11,11 +11,8 @@ pub mod Answering
 pub mod Ending
 pub mod Files
 pub mod Opening
-pub mod StampActs
 pub mod Changing
-pub mod OwnModels
 pub mod Taking
 pub mod Filling
 pub mod Followed
 pub mod Taken
-pub mod ModelLists

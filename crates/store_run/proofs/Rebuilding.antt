@@ -30,7 +30,7 @@ use Rattle.core_laws.specs.contents.Aligned.{top, world_block}
 use Rattle.core_laws.specs.contents.Versions.{IsKept}
 use Rattle.core_laws.proofs.SeenNodes.{gone_tree}
 use Rattle.edit_walk.specs.cells.Worlds.{ShowsWorld, Rebuilt}
-use Rattle.act_rebuilds.specs.Acts.{IsLargeFor, room_for, IsOfAct, RebuildsAct, GrowsByAct, RefusesAct}
+use Rattle.act_rebuilds.specs.Acts.{IsLargeFor, room_for, IsOfAct, MakesAct}
 use Rattle.act_rebuilds.proofs.Rooms.{large_for_all, least_room}
 use Rattle.act_rebuilds.specs.Made.{FailsBy}
 use Rattle.one_store.specs.entries.Words.{key_in}
@@ -136,21 +136,19 @@ module _ (v : Versions) (s : Known) (base : Option Name) (act : Act) (version : 
   shown : ShowsWorld v.store.told.held (v.side - 2) base before
   shown = share_shows v (moment_of v) base are (newest_is_kept v (moment_of v) are refl) holds is
 
-  pub makes_beside : RebuildsAct (known_seen v.store) v.side base v.models.models act result
+  pub makes_beside : MakesAct (known_seen v.store) v.side base v.models.models act result
       (known_seen s)
-      → GrowsByAct (known_seen v.store) v.side base v.models.models act result (known_seen s)
       → IfOk result (λ root. MakesBeside v act root (with_store v s))
   makes_beside = go result
     where
       go : (r : Result (Option Name) Full)
-          → RebuildsAct (known_seen v.store) v.side base v.models.models act r (known_seen s)
-          → GrowsByAct (known_seen v.store) v.side base v.models.models act r (known_seen s)
+          → MakesAct (known_seen v.store) v.side base v.models.models act r (known_seen s)
           → IfOk r (λ root. MakesBeside v act root (with_store v s))
-      go (Err e) rebuilds grows = tt
-      go (Ok root) rebuilds grows =
-          record { rebuilt = rebuilds before shown; grows = grows before shown }
+      go (Err e) makes = tt
+      go (Ok root) makes =
+          let made = makes before shown in record { rebuilt = made.came; grows = made.grows }
 
-  pub fails_beside : RefusesAct (known_seen v.store) v.side base v.models.models act result
+  pub fails_beside : MakesAct (known_seen v.store) v.side base v.models.models act result
       (known_seen s)
       → IfErr result
       (λ full. FailsBy (WantsFor v act) full.level full.bucket (known_seen v.store)
@@ -158,25 +156,23 @@ module _ (v : Versions) (s : Known) (base : Option Name) (act : Act) (version : 
   fails_beside = go result
     where
       go : (r : Result (Option Name) Full)
-          → RefusesAct (known_seen v.store) v.side base v.models.models act r (known_seen s)
+          → MakesAct (known_seen v.store) v.side base v.models.models act r (known_seen s)
           → IfErr r
           (λ full. FailsBy (WantsFor v act) full.level full.bucket (known_seen v.store)
           (known_seen s))
-      go (Ok root) refuses = tt
-      go (Err full) refuses = refuses before shown
+      go (Ok root) makes = tt
+      go (Err full) makes = makes before shown
 
   more : (r : Result (Option Name) Full)
-      → RebuildsAct (known_seen v.store) v.side base v.models.models act r (known_seen s)
-      → RefusesAct (known_seen v.store) v.side base v.models.models act r (known_seen s)
+      → MakesAct (known_seen v.store) v.side base v.models.models act r (known_seen s)
       → (f : Tree → ℕ) → weigh f v.store.told.held ≤ weigh f s.told.held
-  more (Ok root) rebuilds refuses f = let r = rebuilds before shown in omega (arith, r.weighs f)
-  more (Err full) rebuilds refuses f = let r = refuses before shown in omega (arith, r.held f)
+  more (Ok root) makes f = let made = makes before shown in omega (arith, made.came.weighs f)
+  more (Err full) makes f = let fails = makes before shown in omega (arith, fails.held f)
 
-  pub still_held : RebuildsAct (known_seen v.store) v.side base v.models.models act result
+  pub still_held : MakesAct (known_seen v.store) v.side base v.models.models act result
       (known_seen s)
-      → RefusesAct (known_seen v.store) v.side base v.models.models act result (known_seen s)
       → SparesRoots v.store s → HoldsTree s base
-  still_held rebuilds refuses spares = record {
+  still_held makes spares = record {
     each = λ n e. record {
       weighs = λ f. (
           let same = ap (λ (r : Option Name). root_tree s r) e in
@@ -184,25 +180,23 @@ module _ (v : Versions) (s : Known) (base : Option Name) (act : Act) (version : 
           let tree = tree_same v.store s (moment_of v) base spares is in
           let f_same : f (root_tree s (Some n)) ≡ f (root_tree v.store (Some n)) =
           ap f (sym same ∙ tree ∙ here) in
-          omega (arith, (holds.each n e).weighs f, more result rebuilds refuses f, f_same));
+          omega (arith, (holds.each n e).weighs f, more result makes f, f_same));
     };
   }
 
-  pub few_held : RebuildsAct (known_seen v.store) v.side base v.models.models act result
+  pub few_held : MakesAct (known_seen v.store) v.side base v.models.models act result
       (known_seen s)
-      → RefusesAct (known_seen v.store) v.side base v.models.models act result (known_seen s)
       → number_of_trees v.store.told.held ≤ 2049 → number_of_trees s.told.held ≤ 2050
   few_held = go result
     where
       go : (r : Result (Option Name) Full)
-          → RebuildsAct (known_seen v.store) v.side base v.models.models act r (known_seen s)
-          → RefusesAct (known_seen v.store) v.side base v.models.models act r (known_seen s)
+          → MakesAct (known_seen v.store) v.side base v.models.models act r (known_seen s)
           → number_of_trees v.store.told.held ≤ 2049 → number_of_trees s.told.held ≤ 2050
-      go (Ok root) rebuilds refuses few =
-          let r =
-          rebuilds before shown in omega (arith, r.weighs (λ _. 1), weight_of-one r.tree, few)
-      go (Err full) rebuilds refuses few =
-          let r = refuses before shown in omega (arith, r.held (λ _. 1), few)
+      go (Ok root) makes few =
+          let came = (makes before shown).came in
+          omega (arith, came.weighs (λ _. 1), weight_of-one came.tree, few)
+      go (Err full) makes few =
+          let fails = makes before shown in omega (arith, fails.held (λ _. 1), few)
 
 -- ---- and once the base went back
 

@@ -1,9 +1,7 @@
-pub mod Owned
 pub mod Kept
 pub mod Steps
 pub mod Answering
 pub mod Worlds
-pub mod Stamps
 pub mod Changing
 pub mod Replaying
 pub mod Marked

@@ -1,10 +1,10 @@
 -- What a world that stands open is: versions in a store, with nothing held between two calls.
-use Rattle.std.specs.Prelude.{List, Option, Some, None}
-use Rattle.vw_cell.specs.declared.cells.Cell.{Cell}
+use Rattle.std.specs.Prelude.{List}
 use Rattle.vox_read.specs.Contents.{Content}
 use Rattle.history_model.specs.Logs.{Log}
 use Rattle.node_words.specs.Plans.{Layout}
 use Rattle.conformance.specs.scripts.Keeping.{MadeAndMet}
+pub use Rattle.act_rebuilds.specs.Drawn.{size_of}
 use Rattle.store_run.specs.declared.stored_versions.Versions.{Versions}
 use Rattle.store_run.specs.Kept.{plan_of, log_of, noted_of, AreStoredVersions, AreVersions, HoldsNothing}
 
@@ -31,8 +31,3 @@ pub record AreVersionsAtRest (v : Versions) : Type 0 where
 pub record AreStoredAtRest (v : Versions) : Type 0 where
   pub are : AreStoredVersions v
   pub nothing : HoldsNothing v.store
-
--- the size of a model, where there is one
-abbrev pub size_of : Option Content → Option Cell
-size_of None = None
-size_of (Some model) = Some model.size

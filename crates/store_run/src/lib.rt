@@ -10,7 +10,6 @@ mod held_roots;
 mod histories;
 mod lines;
 mod marked;
-mod models;
 mod open_worlds;
 mod replaying;
 mod replays;

@@ -1,7 +1,6 @@
 ghost use Rattle.std.specs.Prelude.{◌≡◌, ◌+◌, ◌<◌, ◌≤◌, ◌^◌, ◌↔◌, true, None, IfOk, IfErr, OnOk, IsTrue, [], length, replicate, option_copied, false};
 
-use crate::models::{OwnModels, own_models, rebuild_own};
-use act_rebuilds::{tell, tell_tinted};
+use act_rebuilds::{OwnModels, own_models, rebuild_act, tell, tell_tinted};
 use history_model::{Act, History, Mark, Question, Record};
 use node_words::{Full, Name, NodeStore, Plan, Share, Steps};
 use one_store::OneStore;
@@ -253,7 +252,7 @@ impl Versions {
             (known_seen self.old.store) (known_seen self.new.store)) }
     {
         let side = self.side;
-        rebuild_own(&mut self.store, base, side, &self.models, act, steps)
+        rebuild_act(&mut self.store, base, side, &self.models, act, steps)
     }
 
     /// The record comes behind the others, and the share of its root goes to its version.

@@ -1,101 +1,89 @@
-use Rattle.std.proofs.Common.{◌^◌, ◌≡◌, ◌∙◌, true, Bool, List, sym, subst}
+use Rattle.std.proofs.Common.{◌^◌, refl}
 use Rattle.std.specs.Prelude.{option_copied}
-use Rattle.vox_read.specs.Contents.{Content}
-use Rattle.history_model.specs.Logs.{FitsWorld, suits_tints}
-use Rattle.act_rebuilds.specs.Acts.{RebuildsAct, GrowsByAct, RefusesAct}
-use Rattle.act_rebuilds.proofs.ListLaws.{cells_plain, cells_models, tints_tinted, tints_models}
-use Rattle.act_rebuilds.proofs.PlainActs.{plainly_rebuilds, plainly_grows, plainly_refuses}
-use Rattle.act_rebuilds.proofs.Rooms.{most_room}
+use Rattle.history_model.specs.declared.acts.Act.TheVariants.{Fill, Erase, Ball, Carve, Copy, Tint}
+use Rattle.act_rebuilds.proofs.PlainActs.{edit_makes, one_makes}
+use Rattle.act_rebuilds.proofs.StampActs.{stamp_there, stamp_inside, stamp_makes}
+use Rattle.act_rebuilds.proofs.TintedActs.{one_large, one_room, one_fits, one_ink_fits, tints_make}
 use Rattle.act_rebuilds.proofs.rebuild.rebuild_act.Goals as goal
 
-pub rebuild_plain-requires-clause-plain : goal.rebuild_plain-requires-clause-plain
-rebuild_plain-requires-clause-plain g c =
-    subst (λ (b : Bool). suits_tints b c.args.act ≡ true)
-    (cells_plain _ _ c.models.view_is _ c.in-Cells.is) c.requires.suits
+pub returns-in-Fill-clause-made : goal.returns-in-Fill-clause-made
+returns-in-Fill-clause-made g c =
+    edit_makes (g.N.Blocks.seen c.args.store.now) (g.N.Blocks.seen c.rebuild_box.new.store) c.args.side
+    (option_copied c.args.old) c.args.models.now.models c.args.act (Fill c.in-Fill.b)
+    c.rebuild_box.result c.in-Fill.is refl c.rebuild_box.ensures.ok c.rebuild_box.ensures.grows c.rebuild_box.ensures.full
 
-pub rebuild_plain-requires-clause-fits : goal.rebuild_plain-requires-clause-fits
-rebuild_plain-requires-clause-fits g c =
-    let row = c.as_slice.ensures.value ∙ cells_models _ _ c.models.view_is _ c.in-Cells.is in
-    subst (λ (ms : List Content). FitsWorld (2 ^ c.args.side) ms c.args.act) (sym row)
-    c.requires.fits
+pub returns-in-Erase-clause-made : goal.returns-in-Erase-clause-made
+returns-in-Erase-clause-made g c =
+    edit_makes (g.N.Blocks.seen c.args.store.now) (g.N.Blocks.seen c.rebuild_box-in-Erase.new.store) c.args.side
+    (option_copied c.args.old) c.args.models.now.models c.args.act (Erase c.in-Erase.b)
+    c.rebuild_box-in-Erase.result c.in-Erase.is refl c.rebuild_box-in-Erase.ensures.ok c.rebuild_box-in-Erase.ensures.grows c.rebuild_box-in-Erase.ensures.full
 
-pub rebuild_plain-requires-clause-room : goal.rebuild_plain-requires-clause-room
-rebuild_plain-requires-clause-room g c = most_room c.args.act _ c.requires.room
+pub returns-in-Ball-clause-made : goal.returns-in-Ball-clause-made
+returns-in-Ball-clause-made g c =
+    edit_makes (g.N.Blocks.seen c.args.store.now) (g.N.Blocks.seen c.rebuild_ball.new.store) c.args.side
+    (option_copied c.args.old) c.args.models.now.models c.args.act (Ball c.in-Ball.ball)
+    c.rebuild_ball.result c.in-Ball.is refl c.rebuild_ball.ensures.ok c.rebuild_ball.ensures.grows c.rebuild_ball.ensures.full
 
-pub rebuild_with-requires-clause-tinted : goal.rebuild_with-requires-clause-tinted
-rebuild_with-requires-clause-tinted g c =
-    subst (λ (b : Bool). suits_tints b c.args.act ≡ true)
-    (tints_tinted _ _ c.models.view_is _ c.in-Tints.is) c.requires.suits
+pub returns-in-Carve-clause-made : goal.returns-in-Carve-clause-made
+returns-in-Carve-clause-made g c =
+    edit_makes (g.N.Blocks.seen c.args.store.now) (g.N.Blocks.seen c.rebuild_ball-in-Carve.new.store) c.args.side
+    (option_copied c.args.old) c.args.models.now.models c.args.act (Carve c.in-Carve.ball)
+    c.rebuild_ball-in-Carve.result c.in-Carve.is refl c.rebuild_ball-in-Carve.ensures.ok c.rebuild_ball-in-Carve.ensures.grows c.rebuild_ball-in-Carve.ensures.full
 
-pub rebuild_with-requires-clause-fits : goal.rebuild_with-requires-clause-fits
-rebuild_with-requires-clause-fits g c =
-    let row =
-    c.as_slice-in-Tints.ensures.value ∙ tints_models _ _ c.models.view_is _ c.in-Tints.is in
-    subst (λ (ms : List Content). FitsWorld (2 ^ c.args.side) ms c.args.act) (sym row)
-    c.requires.fits
+pub returns-in-Copy-clause-made : goal.returns-in-Copy-clause-made
+returns-in-Copy-clause-made g c =
+    edit_makes (g.N.Blocks.seen c.args.store.now) (g.N.Blocks.seen c.rebuild_copy.new.store) c.args.side
+    (option_copied c.args.old) c.args.models.now.models c.args.act (Copy c.in-Copy.from c.in-Copy.to)
+    c.rebuild_copy.result c.in-Copy.is refl c.rebuild_copy.ensures.ok c.rebuild_copy.ensures.grows c.rebuild_copy.ensures.full
 
-pub returns-in-Cells-clause-ok : goal.returns-in-Cells-clause-ok
-returns-in-Cells-clause-ok g c =
-    let old = g.N.Blocks.seen c.args.store.now in
-    let new = g.N.Blocks.seen c.rebuild_plain.new.store in
-    let root = option_copied c.args.old in
-    let row = c.as_slice.ensures.value ∙ cells_models _ _ c.models.view_is _ c.in-Cells.is in
-    let plain = subst (λ (b : Bool). suits_tints b c.args.act ≡ true)
-    (cells_plain _ _ c.models.view_is _ c.in-Cells.is) c.requires.suits in
-    subst (λ (ms : List Content). RebuildsAct old c.args.side root ms c.args.act c.rebuild_plain.result new)
-    row (plainly_rebuilds old new c.args.side root c.as_slice.result.now c.args.act plain c.rebuild_plain.result
-    c.rebuild_plain.ensures.ok)
+pub stencil-stencil-requires-clause-there : goal.stencil-stencil-requires-clause-there
+stencil-stencil-requires-clause-there g c =
+    stamp_there (2 ^ c.args.side) c.args.models.now.models c.args.act c.in-Stamp.m c.in-Stamp.at
+    c.in-Stamp.is c.requires.may.fits
 
-pub returns-in-Tints-clause-ok : goal.returns-in-Tints-clause-ok
-returns-in-Tints-clause-ok g c =
-    let old = g.N.Blocks.seen c.args.store.now in
-    let new = g.N.Blocks.seen c.rebuild_with.new.store in
-    let root = option_copied c.args.old in
-    let row =
-    c.as_slice-in-Tints.ensures.value ∙ tints_models _ _ c.models.view_is _ c.in-Tints.is in
-    subst (λ (ms : List Content). RebuildsAct old c.args.side root ms c.args.act c.rebuild_with.result new)
-    row c.rebuild_with.ensures.ok
+pub rebuild_stamp-requires-clause-inside : goal.rebuild_stamp-requires-clause-inside
+rebuild_stamp-requires-clause-inside g c =
+    stamp_inside (2 ^ c.args.side) c.args.models.now.models c.args.act c.in-Stamp.m c.in-Stamp.at
+    c.stencil-stencil.result.now c.in-Stamp.is c.stencil-stencil.ensures c.requires.may.fits
 
-pub returns-in-Cells-clause-grows : goal.returns-in-Cells-clause-grows
-returns-in-Cells-clause-grows g c =
-    let old = g.N.Blocks.seen c.args.store.now in
-    let new = g.N.Blocks.seen c.rebuild_plain.new.store in
-    let root = option_copied c.args.old in
-    let row = c.as_slice.ensures.value ∙ cells_models _ _ c.models.view_is _ c.in-Cells.is in
-    let plain = subst (λ (b : Bool). suits_tints b c.args.act ≡ true)
-    (cells_plain _ _ c.models.view_is _ c.in-Cells.is) c.requires.suits in
-    subst (λ (ms : List Content). GrowsByAct old c.args.side root ms c.args.act c.rebuild_plain.result new)
-    row (plainly_grows old new c.args.side root c.as_slice.result.now c.args.act plain c.rebuild_plain.result
-    c.rebuild_plain.ensures.grows)
+pub returns-in-Stamp-clause-made : goal.returns-in-Stamp-clause-made
+returns-in-Stamp-clause-made g c =
+    stamp_makes (g.N.Blocks.seen c.args.store.now) (g.N.Blocks.seen c.rebuild_stamp.new.store)
+    c.args.side (option_copied c.args.old) c.args.models.now.models c.args.act c.in-Stamp.m
+    c.in-Stamp.at c.stencil-stencil.result.now c.rebuild_stamp.result c.in-Stamp.is
+    c.stencil-stencil.ensures c.rebuild_stamp.ensures.ok c.rebuild_stamp.ensures.grows
+    c.rebuild_stamp.ensures.full
 
-pub returns-in-Tints-clause-grows : goal.returns-in-Tints-clause-grows
-returns-in-Tints-clause-grows g c =
-    let old = g.N.Blocks.seen c.args.store.now in
-    let new = g.N.Blocks.seen c.rebuild_with.new.store in
-    let root = option_copied c.args.old in
-    let row =
-    c.as_slice-in-Tints.ensures.value ∙ tints_models _ _ c.models.view_is _ c.in-Tints.is in
-    subst (λ (ms : List Content). GrowsByAct old c.args.side root ms c.args.act c.rebuild_with.result new)
-    row c.rebuild_with.ensures.grows
+pub ink-ink-requires-clause-fits : goal.ink-ink-requires-clause-fits
+ink-ink-requires-clause-fits g c = (
+  _,
+  one_fits c.args.side c.args.models.now.models c.args.act c.in-Tint.t c.in-Tint.is
+      c.requires.may.fits,
+)
 
-pub returns-in-Cells-clause-full : goal.returns-in-Cells-clause-full
-returns-in-Cells-clause-full g c =
-    let old = g.N.Blocks.seen c.args.store.now in
-    let new = g.N.Blocks.seen c.rebuild_plain.new.store in
-    let root = option_copied c.args.old in
-    let row = c.as_slice.ensures.value ∙ cells_models _ _ c.models.view_is _ c.in-Cells.is in
-    let plain = subst (λ (b : Bool). suits_tints b c.args.act ≡ true)
-    (cells_plain _ _ c.models.view_is _ c.in-Cells.is) c.requires.suits in
-    subst (λ (ms : List Content). RefusesAct old c.args.side root ms c.args.act c.rebuild_plain.result new)
-    row (plainly_refuses old new c.args.side root c.as_slice.result.now c.args.act plain c.rebuild_plain.result
-    c.rebuild_plain.ensures.full)
+pub rebuild_tint-requires-clause-large : goal.rebuild_tint-requires-clause-large
+rebuild_tint-requires-clause-large g c =
+    one_large c.args.side c.args.models.now.models c.args.act c.in-Tint.t c.in-Tint.is
+    c.requires.may.large
 
-pub returns-in-Tints-clause-full : goal.returns-in-Tints-clause-full
-returns-in-Tints-clause-full g c =
-    let old = g.N.Blocks.seen c.args.store.now in
-    let new = g.N.Blocks.seen c.rebuild_with.new.store in
-    let root = option_copied c.args.old in
-    let row =
-    c.as_slice-in-Tints.ensures.value ∙ tints_models _ _ c.models.view_is _ c.in-Tints.is in
-    subst (λ (ms : List Content). RefusesAct old c.args.side root ms c.args.act c.rebuild_with.result new)
-    row c.rebuild_with.ensures.full
+pub rebuild_tint-requires-clause-fits : goal.rebuild_tint-requires-clause-fits
+rebuild_tint-requires-clause-fits g c =
+    one_ink_fits c.args.side c.args.models.now.models c.args.act c.in-Tint.t c.in-Tint.is _
+    c.requires.may.large c.ink-ink.ensures c.requires.may.fits
+
+pub rebuild_tint-requires-clause-room : goal.rebuild_tint-requires-clause-room
+rebuild_tint-requires-clause-room g c =
+    one_room c.args.side c.args.models.now.models c.args.act c.in-Tint.t c.in-Tint.is _
+    c.requires.may.room
+
+pub returns-in-Tint-clause-made : goal.returns-in-Tint-clause-made
+returns-in-Tint-clause-made g c =
+    let large = one_large c.args.side c.args.models.now.models c.args.act c.in-Tint.t c.in-Tint.is
+    c.requires.may.large in
+    one_makes (g.N.Blocks.seen c.args.store.now) (g.N.Blocks.seen c.rebuild_tint.new.store)
+    c.args.side (option_copied c.args.old) c.args.models.now.models c.args.act (Tint c.in-Tint.t)
+    c.rebuild_tint.result c.in-Tint.is
+    (tints_make (g.N.Blocks.seen c.args.store.now) (g.N.Blocks.seen c.rebuild_tint.new.store)
+    c.args.side (option_copied c.args.old) c.args.models.now.models c.in-Tint.t
+    (option_copied c.ink-ink.result) large c.ink-ink.ensures c.rebuild_tint.result
+    c.rebuild_tint.ensures.made c.rebuild_tint.ensures.full)

@@ -11,7 +11,7 @@ returns-clause-are c =
     c.in_ok-begin.ensures.roots c.in_ok-begin.ensures.told
     c.in_ok-with_capacity.ensures.items c.in_ok-no_marks.ensures c.in_ok-begin-2.ensures c.requires.large
     (subst (λ (ms : List Content). HaveTints c.args.tint ms)
-    (sym own.ensures.models) own.ensures.colours)
+    (sym own.ensures.models) own.ensures.tints)
 
 pub returns-clause-empty : goal.returns-clause-empty
 returns-clause-empty c =
