@@ -163,6 +163,9 @@ stale_told t line act base late v w x y z looks head is first second number one 
       nothing = works.nothing;
       notes = works.notes;
       low = omega arith;
+      pinned = is.works.sees.found.each _
+          (subst (λ (n : ℕ). Contains w.log.found (record { version = n; at = base.moment }))
+          head.head head.pinned.found);
       over = subst (λ (n : ℕ). base.moment < n) is.at_is is.over;
       room = subst (λ (n : ℕ). n < 65535) is.at_is is.room;
     })
