@@ -1,4 +1,5 @@
-// What a pass does under the log's turn.
+// The log's turn: a pass takes it, reads and writes under it, and gives it back. That the pass has
+// it is told by its view.
 ghost use Rattle.std.specs.Prelude.{◌≡◌, ◌≢◌, ◌<◌, ◌≤◌, ◌+◌, ◌-◌, ◌^◌, ℕ, Some, None, true, false, [], ◌∷◌, suc, MatchBool};
 ghost use Rattle.node_words.specs.shapes.Tree.{Tree};
 ghost use Rattle.node_words.specs.shapes.Tree.{root_of as tree_root};
@@ -11,22 +12,22 @@ ghost use Rattle.table_rule.specs.LogChanges.{log_knowing, log_turned};
 ghost use Rattle.node_table.specs.LogTurns.{AreWordsOf, HasLogTurn, HasNoTurn, IsBusy, IsReading};
 ghost use Rattle.node_table.specs.LogTurns.{FoundOpen, IsMarkKnown, IsWordOf, LearnsLog};
 ghost use Rattle.node_table.specs.LogTurns.{LooksForMark, SeesMark, SeesMore};
-ghost use Rattle.node_table.specs.Lending.{LeavesBusy};
+ghost use Rattle.node_table.specs.Guards.{LeavesBusy, TakesAtOnce};
 ghost use Rattle.node_table.specs.LogTurns.{AppendsInTurn, AppendsUnderTurn, ForAppended};
 ghost use Rattle.node_table.specs.LogTurns.{ForgetsUnderTurn, MayAppendWords, StoresNext, log_left, next_mark};
 ghost use Rattle.node_table.specs.LogTurns.{TakesLog, TurnsLog};
 ghost use Rattle.node_table.specs.Seen.{BelongsTo, SamePass};
 
 use crate::log_steps::{
-    give_log_back, look_length, look_version, put_length, put_mark, put_mark_word, put_next,
-    see_mark, see_next, seek_mark, take_log,
+    exchange_log, give_log_back, look_length, look_version, put_length, put_mark, put_mark_word,
+    put_next, see_mark, see_next, seek_mark,
 };
 use crate::passes::{NumberedSeat, Pass, tell};
 use crate::steps::{MOST_YIELDS, yield_often};
 use crate::tables::NodeTable;
 use core_laws::{child_in, child_word};
 use history_model::Mark;
-use node_words::Name;
+use node_words::{Name, Share};
 use std::sync::Wait;
 
 // The next record is seen.
@@ -84,7 +85,7 @@ fn try_take(table: &NodeTable, seat: &mut NumberedSeat) -> bool
     ensures taken { result ≡ true → seat.new.view ≡ log_turned seat.old.view true }
     ensures busy { result ≡ false → IsBusy table.now.made seat.old.view seat.new.view }
 {
-    let found = take_log(table, seat);
+    let found = exchange_log(table, seat);
     found == 0
 }
 
@@ -105,25 +106,24 @@ fn wait_turn<R: Wait>(rt: &R, table: &NodeTable, seat: &mut NumberedSeat)
     }
 }
 
-// Waits for the log's turn, and sees all records.
-pub(crate) fn wait_log<R: Wait>(rt: &R, table: &NodeTable, pass: &mut Pass)
+/// Waits for the log's turn, which the pass has then. All records of the log are seen.
+pub fn take_log<R: Wait>(rt: &R, table: &NodeTable, pass: &mut Pass)
     requires of { BelongsTo table.now pass.old }
     requires idle { HasNoTurn pass.old.view }
     ensures turn { HasLogTurn table.now pass.new }
-    ensures view { TakesLog table.now.made pass.old.view pass.new.view }
+    ensures takes { TakesLog table.now.made pass.old.view pass.new.view }
     ensures same { pass.new.table ≡ pass.old.table }
 {
     wait_turn(rt, table, &mut pass.seat);
     read_log(table, pass);
 }
 
-// Whether the log's turn came, by one exchange; all records are seen then.
-pub(crate) fn try_log(table: &NodeTable, pass: &mut Pass) -> bool
+/// Whether the log's turn came, by one exchange. All records of the log are seen then. Where another
+/// session has it, its number is noted.
+pub fn try_take_log(table: &NodeTable, pass: &mut Pass) -> bool
     requires of { BelongsTo table.now pass.old }
     requires idle { HasNoTurn pass.old.view }
-    ensures { MatchBool result
-        (HasLogTurn table.now pass.new × TakesLog table.now.made pass.old.view pass.new.view
-        × (pass.new.view.log.busy ≡ pass.old.view.log.busy))
+    ensures { MatchBool result (TakesAtOnce table.now pass.old.view pass.new)
         (LeavesBusy table.now pass.old pass.new) }
 {
     if !try_take(table, &mut pass.seat) {
@@ -131,6 +131,18 @@ pub(crate) fn try_log(table: &NodeTable, pass: &mut Pass) -> bool
     }
     read_log(table, pass);
     true
+}
+
+/// How many records the log has.
+pub fn log_length(table: &NodeTable, pass: &mut Pass) -> u32
+    requires { HasLogTurn table.now pass.old }
+    ensures turn { HasLogTurn table.now pass.new }
+    ensures same { pass.new ≡ pass.old }
+    ensures number { result ≡ number_seen pass.old.view }
+    ensures few { result ≤ 65535 }
+{
+    let at = pass.seen();
+    at
 }
 
 // A word of a version, which is known then.
@@ -144,8 +156,8 @@ fn look_word(table: &NodeTable, seat: &mut NumberedSeat, version: u32, word: u8)
     look_version(table, seat, version, word)
 }
 
-// One of the first five words of a record that is seen.
-pub(crate) fn word_of(table: &NodeTable, pass: &mut Pass, n: u32, i: u8) -> u64
+/// One of the first five words of record n, counted from 1.
+pub fn log_word(table: &NodeTable, pass: &mut Pass, n: u32, i: u8) -> u64
     requires turn { HasLogTurn table.now pass.old }
     requires there { (1 ≤ n) × (n ≤ number_seen pass.old.view) }
     requires few { i < 5 }
@@ -160,8 +172,8 @@ pub(crate) fn word_of(table: &NodeTable, pass: &mut Pass, n: u32, i: u8) -> u64
     word
 }
 
-// The first five words of a record that is seen.
-pub(crate) fn words_of(table: &NodeTable, pass: &mut Pass, n: u32) -> [u64; 5]
+/// The first five words of record n, counted from 1.
+pub fn log_words(table: &NodeTable, pass: &mut Pass, n: u32) -> [u64; 5]
     requires turn { HasLogTurn table.now pass.old }
     requires there { (1 ≤ n) × (n ≤ number_seen pass.old.view) }
     ensures turn { HasLogTurn table.now pass.new }
@@ -211,12 +223,12 @@ fn mark_at(table: &NodeTable, pass: &mut Pass, v: u32, at: u32) -> Mark
     }
 }
 
-// The mark of a version, if it has one.
-pub(crate) fn mark_of(table: &NodeTable, pass: &mut Pass, v: u32) -> Option<Mark>
+/// The mark of version v, if it has one. It is seen then; a version without one is noted.
+pub fn log_mark(table: &NodeTable, pass: &mut Pass, v: u32) -> Option<Mark>
     requires turn { HasLogTurn table.now pass.old }
     requires there { v ≤ number_seen pass.old.view }
     ensures turn { HasLogTurn table.now pass.new }
-    ensures mark { LooksForMark pass.old.view v result pass.new.view }
+    ensures looks { LooksForMark pass.old.view v result pass.new.view }
 {
     let found = seek_open(table, pass, v);
     if found == 0 {
@@ -225,8 +237,8 @@ pub(crate) fn mark_of(table: &NodeTable, pass: &mut Pass, v: u32) -> Option<Mark
     Some(mark_at(table, pass, v, found - 1))
 }
 
-// The root of a version that the turn has shown to have no mark.
-pub(crate) fn root_of(table: &NodeTable, pass: &mut Pass, v: u32) -> Option<Name>
+/// The root of a version that this turn has shown to have no mark.
+pub fn log_root(table: &NodeTable, pass: &mut Pass, v: u32) -> Option<Name>
     requires turn { HasLogTurn table.now pass.old }
     requires unmarked { IsShownUnmarked pass.old.view v }
     ensures turn { HasLogTurn table.now pass.new }
@@ -294,12 +306,7 @@ fn shares_of_root(root: Option<Name>) -> u32
 }
 
 // A record is appended, and the turn is kept.
-pub(crate) fn append_on(
-    table: &NodeTable,
-    pass: &mut Pass,
-    words: &[u64; 5],
-    root: Option<Name>,
-) -> u32
+fn append_on(table: &NodeTable, pass: &mut Pass, words: &[u64; 5], root: Option<Name>) -> u32
     requires turn { HasLogTurn table.now pass.old }
     requires may { MayAppendWords table.now.plan pass.old.view words.now root }
     ensures turn { HasLogTurn table.now pass.new }
@@ -316,22 +323,45 @@ pub(crate) fn append_on(
     next
 }
 
-// A record is appended, and the turn is given back.
-pub(crate) fn append(
+// The name of a share that is given.
+fn spent(root: Option<Share>) -> Option<Name>
+    ensures { result ≡ root }
+{
+    match root {
+        None => None,
+        Some(share) => Some(share.spend()),
+    }
+}
+
+/// Appends the record of these words, whose root this is. The answer is its number. The turn is
+/// kept: a `log_forget` or `leave_log` follows.
+pub fn log_append_on(
     table: &NodeTable,
     pass: &mut Pass,
-    words: &[u64; 5],
-    root: Option<Name>,
+    words: [u64; 5],
+    root: Option<Share>,
 ) -> u32
     requires turn { HasLogTurn table.now pass.old }
-    requires may { MayAppendWords table.now.plan pass.old.view words.now root }
+    requires may { MayAppendWords table.now.plan pass.old.view words root }
+    ensures turn { HasLogTurn table.now pass.new }
+    ensures number { result ≡ number_seen pass.old.view + 1 }
+    ensures appended { ForAppended table.now.plan pass.old.view words root
+        (λ r t. AppendsInTurn pass.old.view r t pass.new.view) }
+{
+    append_on(table, pass, &words, spent(root))
+}
+
+/// The same, and the turn is given back.
+pub fn log_append(table: &NodeTable, pass: &mut Pass, words: [u64; 5], root: Option<Share>) -> u32
+    requires turn { HasLogTurn table.now pass.old }
+    requires may { MayAppendWords table.now.plan pass.old.view words root }
     ensures of { BelongsTo table.now pass.new }
     ensures number { result ≡ number_seen pass.old.view + 1 }
-    ensures appended { ForAppended table.now.plan pass.old.view words.now root
+    ensures appended { ForAppended table.now.plan pass.old.view words root
         (λ r t. AppendsUnderTurn pass.old.view r t pass.new.view) }
 {
-    let next = append_on(table, pass, words, root);
-    leave(table, pass);
+    let next = log_append_on(table, pass, words, root);
+    leave_log(table, pass);
     next
 }
 
@@ -363,7 +393,7 @@ fn forget(table: &NodeTable, pass: &mut Pass, v: u32, line: u32, root: Option<Na
 
 // A version that has no mark is forgotten, and the turn is given back; the answer is its root, of
 // which a share comes.
-pub(crate) fn forget_open(table: &NodeTable, pass: &mut Pass, v: u32, line: u32) -> Option<Name>
+fn forget_open(table: &NodeTable, pass: &mut Pass, v: u32, line: u32) -> Option<Name>
     requires turn { HasLogTurn table.now pass.old }
     requires earlier { v < number_seen pass.old.view }
     requires unmarked { IsShownUnmarked pass.old.view v }
@@ -373,9 +403,35 @@ pub(crate) fn forget_open(table: &NodeTable, pass: &mut Pass, v: u32, line: u32)
         → ForgetsUnderTurn pass.old.view (next_mark pass.old.view v number line) result
         pass.new.view }
 {
-    let root = root_of(table, pass, v);
+    let root = log_root(table, pass, v);
     forget(table, pass, v, line, root);
     root
+}
+
+// The share of a name that came.
+fn come(root: Option<Name>) -> Option<Share>
+    ensures { result ≡ root }
+{
+    match root {
+        None => None,
+        Some(name) => Some(Share::of_store(name)),
+    }
+}
+
+/// Forgets version v at this length, for this line; the share of its root comes. The turn is given
+/// back.
+pub fn log_forget(table: &NodeTable, pass: &mut Pass, v: u32, line: u32) -> Option<Share>
+    requires turn { HasLogTurn table.now pass.old }
+    requires earlier { v < number_seen pass.old.view }
+    requires unmarked { IsShownUnmarked pass.old.view v }
+    requires room { number_of_trees pass.old.view.held ≤ 4095 }
+    ensures of { BelongsTo table.now pass.new }
+    ensures forgot { (number : ℕ) → pass.old.view.numbers ≡ number ∷ []
+        → ForgetsUnderTurn pass.old.view (next_mark pass.old.view v number line) result
+        pass.new.view }
+{
+    let root = forget_open(table, pass, v, line);
+    come(root)
 }
 
 // Who forgets a version, of which the root stays shown.
@@ -391,9 +447,9 @@ fn put_who(table: &NodeTable, seat: &mut NumberedSeat, v: u32, new: u64, root: O
     put_mark_word(table, seat, v, new);
 }
 
-// Nothing but the turn changes: it is given back.
-pub(crate) fn leave(table: &NodeTable, pass: &mut Pass)
-    requires turn { HasLogTurn table.now pass.old }
+/// Nothing but the turn changes: it is given back.
+pub fn leave_log(table: &NodeTable, pass: &mut Pass)
+    requires { HasLogTurn table.now pass.old }
     ensures of { BelongsTo table.now pass.new }
     ensures view { pass.new.view ≡ log_left pass.old.view }
 {

@@ -22,7 +22,7 @@ use node_words::Name;
 use std::marker::Brand;
 
 // The number of whoever has the log's turn, plus 1, or 0: then the seat has it now.
-pub(crate) fn take_log(table: &NodeTable, seat: &mut NumberedSeat) -> u64
+pub(crate) fn exchange_log(table: &NodeTable, seat: &mut NumberedSeat) -> u64
     requires of { BelongsTo table.now seat.old }
     requires idle { seat.old.view.log.turn ≡ false }
     ensures same { SamePass seat.old seat.new }

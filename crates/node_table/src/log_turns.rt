@@ -4,6 +4,7 @@ ghost use Rattle.std.specs.Borrow.{sem};
 ghost use Rattle.node_words.specs.shapes.Weights.{number_of_trees};
 ghost use Rattle.table_rule.specs.LogTelling.{IsShownRoot, IsShownUnmarked, number_seen};
 ghost use Rattle.node_table.specs.LogTurns.{AppendsInTurn, AppendsUnderTurn, AreWordsOf, ForAppended};
+ghost use Rattle.node_table.specs.Guards.{KeepsTurn};
 ghost use Rattle.node_table.specs.Lending.{LendsPass, TriesLog};
 ghost use Rattle.node_table.specs.LogTurns.{ForgetsUnderTurn, HasLogTurn, HasNoTurn};
 ghost use Rattle.node_table.specs.LogTurns.{IsWordOf, LearnsLog, LooksForMark, MayAppendWords};
@@ -11,7 +12,10 @@ ghost use Rattle.node_table.specs.LogTurns.{TakesLog};
 ghost use Rattle.node_table.specs.LogTurns.{log_left, next_mark};
 ghost use Rattle.node_table.specs.Seen.{BelongsTo};
 
-use crate::log_acts;
+use crate::log_acts::{
+    leave_log, log_append, log_append_on, log_forget, log_length, log_mark, log_root, log_word,
+    log_words, take_log, try_take_log,
+};
 use crate::passes::Pass;
 use crate::tables::NodeTable;
 use history_model::Mark;
@@ -38,7 +42,7 @@ impl NodeTable {
         ensures same { result.pass.now.table ≡ pass.old.table }
         ensures view { TakesLog self.now.made pass.old.view result.pass.now.view }
     {
-        log_acts::wait_log(rt, self, pass);
+        take_log(rt, self, pass);
         LogTurn { table: self, pass }
     }
 }
@@ -58,7 +62,7 @@ impl Pass {
         ensures at_once { IfSome result
             (λ t. t.pass.now.view.log.busy ≡ self.old.view.log.busy) }
     {
-        if !log_acts::try_log(table, self) {
+        if !try_take_log(table, self) {
             return None;
         }
         Some(LogTurn { table, pass: self })
@@ -66,23 +70,6 @@ impl Pass {
 }
 
 impl<'a> LogTurn<'a> {
-    /// The turn that the pass has.
-    pub fn of(table: &'a NodeTable, pass: &'a mut Pass) -> LogTurn<'a>
-        requires turn { HasLogTurn table.now pass.old }
-        ensures pass { result.pass.ghost_name ≡ pass.entry.ghost_name }
-        ensures table { result.table.now ≡ table.now }
-        ensures now { result.pass.now ≡ pass.old }
-    {
-        LogTurn { table, pass }
-    }
-
-    /// The pass keeps the turn.
-    pub fn rest(self)
-        ensures { self.exit.1.0.now ≡ self.entry.pass.now }
-    {
-        let LogTurn { table: _, pass: _ } = self;
-    }
-
     /// How many records the log has.
     pub fn len(&mut self) -> u32
         requires turn { HasLogTurn self.old.table.now self.old.pass.now }
@@ -92,21 +79,20 @@ impl<'a> LogTurn<'a> {
         ensures same { (self.new.table.now ≡ self.old.table.now)
             × (self.new.pass.now ≡ self.old.pass.now) }
     {
-        self.pass.seen()
+        log_length(self.table, self.pass)
     }
 
     /// The first five words of record n, counted from 1.
     pub fn words(&mut self, n: u32) -> [u64; 5]
         requires turn { HasLogTurn self.old.table.now self.old.pass.now }
         requires there { (1 ≤ n) × (n ≤ number_seen self.old.pass.now.view) }
-        ensures pass { self.new.pass.ghost_name ≡ self.old.pass.ghost_name }
-        ensures same { self.new.table.now ≡ self.old.table.now }
-        ensures turn { HasLogTurn self.new.table.now self.new.pass.now }
+        ensures keeps { KeepsTurn self.old.table.now self.new.table.now self.old.pass
+            self.new.pass }
         ensures learns { LearnsLog self.old.pass.now.view self.new.pass.now.view }
         ensures words { AreWordsOf self.old.pass.now.view (n - 1) result }
         ensures few { number_seen self.old.pass.now.view ≤ 65535 }
     {
-        log_acts::words_of(self.table, self.pass, n)
+        log_words(self.table, self.pass, n)
     }
 
     /// Word i of these five alone.
@@ -114,39 +100,36 @@ impl<'a> LogTurn<'a> {
         requires turn { HasLogTurn self.old.table.now self.old.pass.now }
         requires there { (1 ≤ n) × (n ≤ number_seen self.old.pass.now.view) }
         requires few { i < 5 }
-        ensures pass { self.new.pass.ghost_name ≡ self.old.pass.ghost_name }
-        ensures same { self.new.table.now ≡ self.old.table.now }
-        ensures turn { HasLogTurn self.new.table.now self.new.pass.now }
+        ensures keeps { KeepsTurn self.old.table.now self.new.table.now self.old.pass
+            self.new.pass }
         ensures learns { LearnsLog self.old.pass.now.view self.new.pass.now.view }
         ensures word { IsWordOf self.old.pass.now.view (n - 1) i result }
         ensures few { number_seen self.old.pass.now.view ≤ 65535 }
     {
-        log_acts::word_of(self.table, self.pass, n, i)
+        log_word(self.table, self.pass, n, i)
     }
 
     /// The mark of version v, if it has one. It is seen then; a version without one is noted.
     pub fn mark(&mut self, v: u32) -> Option<Mark>
         requires turn { HasLogTurn self.old.table.now self.old.pass.now }
         requires there { v ≤ number_seen self.old.pass.now.view }
-        ensures pass { self.new.pass.ghost_name ≡ self.old.pass.ghost_name }
-        ensures same { self.new.table.now ≡ self.old.table.now }
-        ensures turn { HasLogTurn self.new.table.now self.new.pass.now }
+        ensures keeps { KeepsTurn self.old.table.now self.new.table.now self.old.pass
+            self.new.pass }
         ensures mark { LooksForMark self.old.pass.now.view v result self.new.pass.now.view }
     {
-        log_acts::mark_of(self.table, self.pass, v)
+        log_mark(self.table, self.pass, v)
     }
 
     /// The root of a version that this turn has shown to have no mark.
     pub fn root(&mut self, v: u32) -> Option<Name>
         requires turn { HasLogTurn self.old.table.now self.old.pass.now }
         requires unmarked { IsShownUnmarked self.old.pass.now.view v }
-        ensures pass { self.new.pass.ghost_name ≡ self.old.pass.ghost_name }
-        ensures same { self.new.table.now ≡ self.old.table.now }
-        ensures turn { HasLogTurn self.new.table.now self.new.pass.now }
+        ensures keeps { KeepsTurn self.old.table.now self.new.table.now self.old.pass
+            self.new.pass }
         ensures learns { LearnsLog self.old.pass.now.view self.new.pass.now.view }
         ensures root { IsShownRoot self.new.pass.now.view v result }
     {
-        log_acts::root_of(self.table, self.pass, v)
+        log_root(self.table, self.pass, v)
     }
 
     /// The pass, which has the turn: it may take turns of buckets meanwhile.
@@ -168,21 +151,20 @@ impl<'a> LogTurn<'a> {
             root (λ r t. AppendsUnderTurn self.entry.pass.now.view r t self.exit.1.0.now.view) }
     {
         let LogTurn { table, pass } = self;
-        log_acts::append(table, pass, &words, spent(root))
+        log_append(table, pass, words, root)
     }
 
     /// As `append`, and the turn is kept: a `forget` or `leave` follows.
     pub fn append_on(&mut self, words: [u64; 5], root: Option<Share>) -> u32
         requires turn { HasLogTurn self.old.table.now self.old.pass.now }
         requires may { MayAppendWords self.old.table.now.plan self.old.pass.now.view words root }
-        ensures pass { self.new.pass.ghost_name ≡ self.old.pass.ghost_name }
-        ensures same { self.new.table.now ≡ self.old.table.now }
-        ensures turn { HasLogTurn self.new.table.now self.new.pass.now }
+        ensures keeps { KeepsTurn self.old.table.now self.new.table.now self.old.pass
+            self.new.pass }
         ensures number { result ≡ number_seen self.old.pass.now.view + 1 }
         ensures appended { ForAppended self.old.table.now.plan self.old.pass.now.view words root
             (λ r t. AppendsInTurn self.old.pass.now.view r t self.new.pass.now.view) }
     {
-        log_acts::append_on(self.table, self.pass, &words, spent(root))
+        log_append_on(self.table, self.pass, words, root)
     }
 
     /// Forgets version v at this length, for this line; the share of its root comes. The turn is
@@ -198,8 +180,7 @@ impl<'a> LogTurn<'a> {
             (next_mark self.entry.pass.now.view v number line) result self.exit.1.0.now.view }
     {
         let LogTurn { table, pass } = self;
-        let root = log_acts::forget_open(table, pass, v, line);
-        come(root)
+        log_forget(table, pass, v, line)
     }
 
     /// Nothing but the turn changes: it is given back.
@@ -209,26 +190,6 @@ impl<'a> LogTurn<'a> {
         ensures view { self.exit.1.0.now.view ≡ log_left self.entry.pass.now.view }
     {
         let LogTurn { table, pass } = self;
-        log_acts::leave(table, pass);
-    }
-}
-
-// The name of a share that is given.
-fn spent(root: Option<Share>) -> Option<Name>
-    ensures { result ≡ root }
-{
-    match root {
-        None => None,
-        Some(share) => Some(share.spend()),
-    }
-}
-
-// The share of a name that came.
-fn come(root: Option<Name>) -> Option<Share>
-    ensures { result ≡ root }
-{
-    match root {
-        None => None,
-        Some(name) => Some(Share::of_store(name)),
+        leave_log(table, pass);
     }
 }

@@ -22,7 +22,7 @@ use Rattle.version_log.specs.Pins.{PinsVersion, version_asked}
 use Rattle.version_log.specs.Roots.{GetsRoot, HoldsRootOf}
 use Rattle.version_log.specs.Seeing.{LooksOn}
 use Rattle.version_log.specs.Pins.{RefusesPin}
-use Rattle.version_log.specs.declared.pinned.Pinned.{Pinned}
+use Rattle.version_log.specs.declared.answers.Pinned.{Pinned}
 use Rattle.retain.specs.declared.refusals.PinRefused.{PinRefused}
 use Rattle.retain.specs.declared.refusals.PinRefused.TheVariants.{NoVersion, Forgotten}
 use Rattle.conformance.specs.sessions.Calls.{FindsVersion}

@@ -14,12 +14,12 @@ use Rattle.node_table.specs.LogTurns.{HasNoTurn}
 use Rattle.node_table.specs.Seen.{TableSeen, PassSeen, BelongsTo, SamePass}
 use Rattle.version_log.specs.Commits.{RefusesCommit}
 use Rattle.version_log.specs.Falling.{CommitsNext}
-use Rattle.version_log.specs.declared.committed.Committed.{Committed}
+use Rattle.version_log.specs.declared.answers.Committed.{Committed}
 use Rattle.version_log.specs.Roots.{GetsRoot}
 use Rattle.version_log.specs.Seeing.{IsDated, LooksOn}
-use Rattle.version_log.specs.declared.refusals.CommitRefused.{CommitRefused}
-use Rattle.version_log.specs.declared.refusals.CommitRefused.TheVariants.{LogFull, Stale}
-use Rattle.version_log.specs.declared.pinned.Pinned.{Pinned}
+use Rattle.version_log.specs.declared.answers.CommitRefused.{CommitRefused}
+use Rattle.version_log.specs.declared.answers.CommitRefused.TheVariants.{LogFull, Stale}
+use Rattle.version_log.specs.declared.answers.Pinned.{Pinned}
 use Rattle.conformance.specs.declared.sessions.calls.ActAnswer.TheVariants as acts
 use Rattle.hands.specs.Lendable.{StaysLendable}
 use Rattle.session.specs.Attempts.{AnswersAct, FailsToMake, HasPinnedHead, IsLate, IsMaker, MakesNextRoot}

@@ -15,7 +15,7 @@ use Rattle.node_words.specs.descent.Roots.{ForWorld, IsBlockOf, cells_of}
 use Rattle.history_model.specs.Logs.{kept_side}
 use Rattle.table_rule.specs.LogTelling.{seen_has}
 use Rattle.node_table.specs.Seen.{TableSeen, PassSeen}
-use Rattle.version_log.specs.declared.pinned.Pinned.{Pinned}
+use Rattle.version_log.specs.declared.answers.Pinned.{Pinned}
 use Rattle.version_log.specs.Pins.{IsPinned}
 use Rattle.session.specs.Resting.{IsAtRest}
 use Rattle.session.proofs.AskLaws.{named_held}

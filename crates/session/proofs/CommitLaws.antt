@@ -27,7 +27,7 @@ use Rattle.version_log.specs.Commits.{AppendsNext, IsMadeOver, IsOwnRecord, with
 use Rattle.version_log.specs.Pins.{PinsVersion}
 use Rattle.version_log.specs.Roots.{GetsRoot, HoldsRootOf}
 use Rattle.version_log.specs.Seeing.{KnowsMore}
-use Rattle.version_log.specs.declared.pinned.Pinned.{Pinned}
+use Rattle.version_log.specs.declared.answers.Pinned.{Pinned}
 use Rattle.conformance.specs.declared.sessions.calls.ActAnswer.TheVariants as acts
 use Rattle.conformance.specs.sessions.Seen.{of_session}
 use Rattle.conformance.specs.sessions.Told.{ActDone}

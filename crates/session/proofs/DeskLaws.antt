@@ -6,7 +6,7 @@ use Rattle.node_words.specs.shapes.Weights.{weigh, number_of_trees}
 use Rattle.node_words.specs.Held.{SameHeld}
 use Rattle.table_rule.specs.Views.{SeatView}
 use Rattle.node_table.specs.Seen.{TableSeen, PassSeen, SamePass}
-use Rattle.version_log.specs.declared.pinned.Pinned.{Pinned}
+use Rattle.version_log.specs.declared.answers.Pinned.{Pinned}
 use Rattle.session.specs.Desks.{DeskStands}
 use Rattle.session.specs.Resting.{IsAtRest}
 use Rattle.session.specs.Saves.{AddsPin, SeatHoldsMore, SeatHoldsPins, pinned_versions}

@@ -12,7 +12,7 @@ use Rattle.table_rule.specs.LogTelling.{number_seen}
 use Rattle.table_rule.specs.Views.{SeatView}
 use Rattle.version_log.specs.Roots.{GetsRoot}
 use Rattle.version_log.specs.Seeing.{LooksOn}
-use Rattle.version_log.specs.declared.pinned.Pinned.{Pinned}
+use Rattle.version_log.specs.declared.answers.Pinned.{Pinned}
 use Rattle.conformance.specs.declared.sessions.calls.ActAnswer.{ActAnswer}
 use Rattle.conformance.specs.declared.sessions.calls.ActAnswer.TheVariants as acts
 use Rattle.session.specs.declared.attempts.Late.{Late}
@@ -163,6 +163,9 @@ stale_told t line act base late v w x y z looks head is first second number one 
       nothing = works.nothing;
       notes = works.notes;
       low = omega arith;
+      pinned = is.works.sees.found.each _
+          (subst (λ (n : ℕ). Contains w.log.found (record { version = n; at = base.moment }))
+          head.head head.pinned.found);
       over = subst (λ (n : ℕ). base.moment < n) is.at_is is.over;
       room = subst (λ (n : ℕ). n < 65535) is.at_is is.room;
     })

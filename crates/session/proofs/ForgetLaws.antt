@@ -17,7 +17,7 @@ use Rattle.node_table.specs.LogTurns.{HasNoTurn}
 use Rattle.node_table.specs.Seen.{TableSeen, PassSeen}
 use Rattle.version_log.specs.Forgets.{ForgetsVersion, IsOwnMark, RefusesForget}
 use Rattle.version_log.specs.Seeing.{IsDated, LooksOn}
-use Rattle.version_log.specs.declared.forgetting.Forgot.{Forgot}
+use Rattle.version_log.specs.declared.answers.Forgot.{Forgot}
 use Rattle.retain.specs.declared.refusals.ForgetRefused.{ForgetRefused}
 use Rattle.retain.specs.declared.refusals.ForgetRefused.TheVariants.{NoVersion, IsHead, Forgotten}
 use Rattle.conformance.specs.sessions.Seen.{SessionSeen}

@@ -22,12 +22,12 @@ use Rattle.node_table.specs.LogChanges.{HasOpenTarget}
 use Rattle.core_laws.specs.places.Spots.{Version}
 use Rattle.node_table.specs.LogTurns.{FoundMark, FoundOpen, LearnsLog, LooksForMark}
 use Rattle.node_table.specs.Seen.{PassSeen}
-use Rattle.version_log.proofs.LookLaws.{found_looks, learns_looks, looks_on}
+use Rattle.version_log.proofs.LookLaws.{found_looks, keeps_looks, learns_looks, looks_on}
 use Rattle.version_log.proofs.UndoLaws.{target_made, target_open}
 use Rattle.version_log.specs.declared.ahead.Ahead.{Ahead}
 use Rattle.edit_walk.specs.blocks.Blocks.{GoesBack}
 use Rattle.version_log.specs.Falling.{CommitsNext}
-use Rattle.version_log.specs.declared.committed.Committed.{Committed}
+use Rattle.version_log.specs.declared.answers.Committed.{Committed}
 use Rattle.version_log.specs.Keeping.{OnlyKeeps}
 use Rattle.version_log.specs.Roots.{GetsRoot, HoldsRootOf}
 use Rattle.version_log.specs.Seeing.{LooksOn}
@@ -40,7 +40,7 @@ use Rattle.session.specs.Seen.{WorldSeen, of_world, session_seen}
 use Rattle.session.proofs.CommitLaws.{few_gained, held_by}
 use Rattle.session.proofs.KeepLaws.{fallen_room, kept_answers, pushed_held}
 use Rattle.session.proofs.SurelyLaws.{gets_from, same_number_seen}
-use Rattle.session.proofs.TurnLaws.{keeps_looks, kept_root, looked_held}
+use Rattle.session.proofs.TurnLaws.{kept_root, looked_held}
 use Rattle.session.proofs.WorkLaws.{answers_after, answers_still, looks_work}
 
 first_is : (versions : List ℕ) → first_of versions ≡ slice_get versions 0

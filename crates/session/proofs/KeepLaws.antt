@@ -22,7 +22,7 @@ use Rattle.version_log.specs.Falling.{CommitsNext, FallsOut, WasMarked}
 use Rattle.version_log.specs.Forgets.{ForgetsVersion}
 use Rattle.version_log.specs.Roots.{GetsRoot}
 use Rattle.version_log.specs.Seeing.{KnowsMore}
-use Rattle.version_log.specs.declared.committed.Committed.{Committed}
+use Rattle.version_log.specs.declared.answers.Committed.{Committed}
 use Rattle.version_log.proofs.RootLaws.{no_root_gains}
 use Rattle.conformance.specs.declared.sessions.calls.ActAnswer.TheVariants as acts
 use Rattle.conformance.specs.sessions.Calls.{AppendsOwn, numbered_change}

@@ -16,7 +16,7 @@ use Rattle.node_words.specs.Held.{IsHeld}
 use Rattle.node_words.proofs.HeldLaws.{held_reached}
 use Rattle.node_words.specs.descent.Roots.{IsBlockOf, HoldsRoot, ForWorld, cells_of}
 use Rattle.node_table.specs.Seen.{TableSeen}
-use Rattle.version_log.specs.declared.pinned.Pinned.{Pinned}
+use Rattle.version_log.specs.declared.answers.Pinned.{Pinned}
 use Rattle.conformance.specs.sessions.Seen.{SessionSeen}
 use Rattle.session.specs.Saves.{HoldsSaves, IsSavedRoot}
 use Rattle.history_model.specs.Logs.{kept_side}

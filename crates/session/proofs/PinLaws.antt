@@ -21,7 +21,7 @@ use Rattle.table_rule.specs.LogTelling.{seen_has}
 use Rattle.table_rule.specs.LogViews.{LogView}
 use Rattle.table_rule.specs.Views.{SeatView, seen_of}
 use Rattle.node_table.specs.Seen.{TableSeen, PassSeen}
-use Rattle.version_log.specs.declared.pinned.Pinned.{Pinned}
+use Rattle.version_log.specs.declared.answers.Pinned.{Pinned}
 use Rattle.version_log.specs.Pins.{IsPinned}
 use Rattle.hands.specs.Lendable.{StaysLendable}
 use Rattle.conformance.specs.sessions.Told.{TellsKept, plainly_tinted}

@@ -25,7 +25,7 @@ use Rattle.node_table.proofs.LogActs.{one_tree}
 use Rattle.node_table.specs.Seen.{TableSeen, PassSeen, SamePass}
 use Rattle.version_log.specs.Pins.{PinsVersion}
 use Rattle.version_log.specs.Seeing.{LooksOn}
-use Rattle.version_log.specs.declared.pinned.Pinned.{Pinned}
+use Rattle.version_log.specs.declared.answers.Pinned.{Pinned}
 use Rattle.conformance.proofs.OfSessions.SuitLaws.{store_stays}
 use Rattle.conformance.specs.sessions.Seen.{SessionSeen}
 use Rattle.conformance.specs.sessions.Calls.{FindsVersion, FollowsHistory}

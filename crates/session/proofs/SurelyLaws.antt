@@ -11,11 +11,11 @@ use Rattle.table_rule.specs.LogTelling.{number_seen}
 use Rattle.table_rule.specs.Views.{SeatView}
 use Rattle.edit_walk.specs.blocks.Blocks.{GoesBack}
 use Rattle.version_log.specs.Falling.{CommitsNext}
-use Rattle.version_log.specs.declared.committed.Committed.{Committed}
+use Rattle.version_log.specs.declared.answers.Committed.{Committed}
 use Rattle.version_log.specs.Finishing.{RefusesFinish}
 use Rattle.version_log.specs.Roots.{GetsRoot}
-use Rattle.version_log.specs.declared.refusals.SureRefused.{SureRefused}
-use Rattle.version_log.specs.declared.refusals.SureRefused.TheVariants.{LogFull}
+use Rattle.version_log.specs.declared.answers.SureRefused.{SureRefused}
+use Rattle.version_log.specs.declared.answers.SureRefused.TheVariants.{LogFull}
 use Rattle.conformance.specs.declared.sessions.calls.ActAnswer.TheVariants as acts
 use Rattle.conformance.specs.sessions.Seen.{SessionSeen}
 use Rattle.session.specs.Attempts.{AnswersAct, FailsToMake, MakesNextRoot}

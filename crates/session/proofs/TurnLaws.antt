@@ -9,19 +9,18 @@ use Rattle.node_words.specs.declared.shapes.names.Name.{Name}
 use Rattle.node_words.specs.shapes.Tree.{Tree}
 use Rattle.node_words.specs.shapes.Weights.{number_of_trees}
 use Rattle.core_laws.specs.places.Spots.{LogLength}
-use Rattle.table_rule.specs.LogKnowing.{IsPrefix}
 use Rattle.table_rule.specs.LogTelling.{IsShownUnmarked, number_seen, seen_has}
 use Rattle.table_rule.specs.LogViews.{LogView}
 use Rattle.table_rule.specs.Rules.{SameSession}
 use Rattle.table_rule.specs.Views.{SeatView, known_at}
 use Rattle.node_table.specs.LogTurns.{HasLogTurn, HasNoTurn, LooksForMark, TakesLog, log_left}
 use Rattle.node_table.specs.Seen.{TableSeen, PassSeen, BelongsTo, SamePass}
-use Rattle.version_log.proofs.LookLaws.{begins_itself, found_looks, left_looks, looks_on, others_by}
+use Rattle.version_log.proofs.LookLaws.{found_looks, keeps_looks, left_looks, looks_on}
 use Rattle.version_log.specs.Falling.{CommitsNext}
-use Rattle.version_log.specs.declared.committed.Committed.{Committed}
+use Rattle.version_log.specs.declared.answers.Committed.{Committed}
 use Rattle.version_log.specs.Keeping.{OnlyKeeps}
 use Rattle.version_log.specs.Roots.{GetsRoot, HoldsRootOf}
-use Rattle.version_log.specs.Seeing.{FoundStays, IsDated, KnowsMore, LooksOn}
+use Rattle.version_log.specs.Seeing.{IsDated, KnowsMore, LooksOn}
 use Rattle.hands.specs.Lendable.{IsLendable, StaysLendable}
 use Rattle.session.specs.Resting.{HasLog, IsAtRest}
 use Rattle.session.specs.Seen.{session_seen}
@@ -167,27 +166,6 @@ looked_records : (v w : SeatView) (n : ℕ) (m : Option Mark) → LooksForMark v
     → w.log.seen.records ≡ v.log.seen.records
 looked_records v w n None f = ap (λ (x : SeatView). x.log.seen.records) f.is
 looked_records v w n (Some m) f = ap (λ (x : SeatView). x.log.seen.records) f.is
-
--- a share was taken
-pub keeps_looks : (v w : SeatView) → OnlyKeeps v w → LooksOn v w
-keeps_looks v w k =
-    record {
-      session = k.session;
-      sees = record {
-        seen = subst (λ (l : LogView). IsPrefix v.log.seen l.seen) (sym k.log)
-            (begins_itself v.log.seen);
-        side = ap (λ (l : LogView). l.seen.side) k.log;
-        dated = subst (λ (l : LogView). IsDated l.seen) (sym k.log);
-        taken = ap (λ (l : LogView). l.taken) k.log;
-        found = subst (λ (l : LogView). FoundStays v.log.found l.found) (sym k.log)
-            (record { each = λ f c. c });
-      };
-      records = ap (λ (l : LogView). l.records) k.log;
-      marks = ap (λ (l : LogView). l.marks) k.log;
-      busy = others_by v.numbers v.log.busy w.log.busy (ap (λ (l : LogView). l.busy) k.log);
-      made = k.made;
-      met = k.met;
-    }
 
 -- a version's cells are the same behind that
 pub kept_has : (v w : SeatView) (n : ℕ) → OnlyKeeps v w → seen_has w n ≡ seen_has v n

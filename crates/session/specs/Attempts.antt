@@ -13,7 +13,7 @@ use Rattle.table_rule.specs.LogTelling.{number_seen}
 use Rattle.table_rule.specs.Rules.{SameSession}
 use Rattle.table_rule.specs.Views.{SeatView}
 use Rattle.node_table.specs.Seen.{TableSeen}
-use Rattle.version_log.specs.declared.pinned.Pinned.{Pinned}
+use Rattle.version_log.specs.declared.answers.Pinned.{Pinned}
 use Rattle.version_log.specs.Commits.{IsMadeOver}
 use Rattle.version_log.specs.Pins.{IsPinned}
 use Rattle.version_log.specs.Roots.{GetsRoot}

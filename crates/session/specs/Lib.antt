@@ -7,7 +7,7 @@ pub mod Saves
 pub mod Desks
 pub mod Scripts
 pub use Rattle.hands.specs.Lendable
-pub use Rattle.version_log.specs.declared.pinned.Pinned
+pub use Rattle.version_log.specs.declared.answers.Pinned
 pub use Rattle.version_log.specs.Seeing
 pub use Rattle.extract.specs.Saved
 pub use Rattle.act_rebuilds.specs.Reading

@@ -12,7 +12,7 @@ use Rattle.transcript.specs.declared.answers.Answer.{Answer}
 use Rattle.transcript.specs.declared.answers.Answer.TheVariants as answers
 use Rattle.table_rule.specs.Views.{SeatView}
 use Rattle.node_table.specs.Seen.{TableSeen}
-use Rattle.version_log.specs.declared.pinned.Pinned.{Pinned}
+use Rattle.version_log.specs.declared.answers.Pinned.{Pinned}
 use Rattle.retain.specs.declared.refusals.PinRefused.{PinRefused}
 use Rattle.conformance.specs.declared.sessions.calls.SavedAt.{SavedAt}
 use Rattle.conformance.specs.sessions.Seen.{SessionSeen}

@@ -9,7 +9,7 @@ ghost use Rattle.node_table.specs.Seen.{SamePass};
 ghost use Rattle.script.specs.Fitting.{QuestionFits};
 ghost use Rattle.conformance.specs.Kinds.{is_resting};
 ghost use Rattle.table_rule.specs.LogTelling.{seen_has};
-ghost use Rattle.version_log.specs.declared.pinned.Pinned.{Pinned};
+ghost use Rattle.version_log.specs.declared.answers.Pinned.{Pinned};
 ghost use Rattle.version_log.specs.Pins.{IsPinned};
 ghost use Rattle.conformance.specs.sessions.Told.{AskTold, TellsKept};
 ghost use Rattle.act_rebuilds.specs.questions.TellsRoots.{TellsRoot};

@@ -6,7 +6,7 @@ ghost use Rattle.table_rule.specs.LogTelling.{seen_has};
 ghost use Rattle.table_rule.specs.Views.{seen_of};
 ghost use Rattle.hands.specs.Lendable.{IsLendable, StaysLendable};
 ghost use Rattle.node_table.specs.Seen.{SamePass};
-ghost use Rattle.version_log.specs.declared.pinned.Pinned.{Pinned};
+ghost use Rattle.version_log.specs.declared.answers.Pinned.{Pinned};
 ghost use Rattle.version_log.specs.Pins.{IsPinned};
 ghost use Rattle.session.specs.Resting.{IsAtRest};
 ghost use Rattle.session.specs.Roots.{file_kept, voxels_kept};

@@ -15,6 +15,7 @@ ghost use Rattle.session.specs.Seen.{session_seen};
 
 use crate::world::{Session, World};
 use history_model::Act;
+use node_table::{leave_log, log_length, log_mark, take_log};
 use node_words::{Share, Steps};
 use std::sync::Wait;
 use std::sync::ledger::Ledger;
@@ -29,7 +30,7 @@ impl<'m> World<'m> {
         ensures looks { LooksOn s.old.view s.new.view }
         ensures held { s.new.view.held ≡ s.old.view.held }
     {
-        version_log::take(rt, &self.table, s);
+        take_log(rt, &self.table, s);
     }
 
     // The turn goes back, at this length of the history.
@@ -41,8 +42,8 @@ impl<'m> World<'m> {
         ensures held { s.new.view.held ≡ s.old.view.held }
         ensures at { result ≡ number_seen s.new.view }
     {
-        let at = version_log::length(&self.table, s);
-        version_log::leave(&self.table, s);
+        let at = log_length(&self.table, s);
+        leave_log(&self.table, s);
         at
     }
 
@@ -92,8 +93,8 @@ impl<'m> World<'m> {
             (seen_has s.new.view (number_seen s.new.view)) }
         ensures gains { GetsRoot s.old.view.held result s.new.view.held }
     {
-        let at = version_log::length(&self.table, s);
-        let _mark = version_log::mark(&self.table, s, at);
+        let at = log_length(&self.table, s);
+        let _mark = log_mark(&self.table, s, at);
         version_log::keep_version(rt, &self.table, s, at, steps)
     }
 }

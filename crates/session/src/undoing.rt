@@ -16,6 +16,7 @@ ghost use Rattle.session.specs.Seen.{session_seen};
 use crate::world::{Session, World};
 use conformance::ActAnswer;
 use history_model::Act;
+use node_table::{log_length, log_mark};
 use node_words::{Share, Steps};
 use std::sync::Wait;
 use std::sync::ledger::Ledger;
@@ -63,10 +64,10 @@ impl<'m> World<'m> {
         ensures told { IfErr result
             (λ e. (line : ℕ) → AnswersAct self.now line act.now e s.old.view s.new.view) }
     {
-        let at = version_log::length(&self.table, s);
+        let at = log_length(&self.table, s);
         let lead = version_log::target(&self.table, s, act);
         match lead.to {
-            Some(to) => match version_log::mark(&self.table, s, to) {
+            Some(to) => match log_mark(&self.table, s, to) {
                 Some(mark) => Err(ActAnswer::Forgotten { at, mark }),
                 None => {
                     let root = version_log::keep_version(rt, &self.table, s, to, steps);

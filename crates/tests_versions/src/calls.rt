@@ -13,13 +13,13 @@ ghost use Rattle.tests_versions.specs.Holding.{HoldsUniform};
 
 use crate::uniform::{act_behind, all_back, name_of, root_back, uniform_root};
 use history_model::{Act, Mark};
-use node_table::{NodeTable, Pass};
+use node_table::{NodeTable, Pass, leave_log, log_mark, take_log};
 use node_words::{Name, Share, Steps};
 use std::sync::Wait;
 use std::sync::ledger::Ledger;
 use version_log::{
     Committed, ForgetRefused, Forgot, Lead, PinRefused, Pinned, SureRefused, finish, forget,
-    keep_version, leave, mark, nothing_kept, pin, take, target,
+    keep_version, nothing_kept, pin, target,
 };
 
 /// A version that was pinned, the length then, and its root, which went back.
@@ -104,7 +104,7 @@ fn finish_or_back<R: Wait, L: Ledger>(
     ensures { HoldsUniform table.now pass.new result.1 }
 {
     let act = act_behind(name_of(&root));
-    take(rt, table, pass);
+    take_log(rt, table, pass);
     match finish(table, pass, nothing_kept(), line, &act, root, 0) {
         Ok(committed) => (fallen_back(rt, table, pass, committed, steps).n, None),
         Err(SureRefused::LogFull { root }) => (0, root),
@@ -207,14 +207,14 @@ pub fn go_keeping<R: Wait, L: Ledger>(
     requires act { is_edit act.now ≡ false }
     ensures { IsSpare table.now pass.new }
 {
-    take(rt, table, pass);
+    take_log(rt, table, pass);
     let Lead { to, ahead } = target(table, pass, act);
     let Some(to) = to else {
-        leave(table, pass);
+        leave_log(table, pass);
         return (Went::Nowhere, None);
     };
-    if let Some(found) = mark(table, pass, to) {
-        leave(table, pass);
+    if let Some(found) = log_mark(table, pass, to) {
+        leave_log(table, pass);
         return (Went::Marked(found), None);
     }
     let root = keep_version(rt, table, pass, to, steps);

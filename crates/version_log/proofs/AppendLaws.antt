@@ -1,5 +1,5 @@
 -- What an append under the log's turn needs and leaves.
-use Rattle.std.proofs.Common.{Result, Ok, Err, IfErr, ◌≡◌, ◌⊎◌, ◌+◌, ◌^◌, ◌<◌, ◌≤◌, ℕ, true, Option, List, [], ◌∷◌, ◌++◌, length, inl, inr, refl, sym, ◌∙◌, ap, subst, arith, length-append}
+use Rattle.std.proofs.Common.{◌≡◌, ◌⊎◌, ◌+◌, ◌^◌, ◌<◌, ◌≤◌, ℕ, true, Option, List, [], ◌∷◌, ◌++◌, length, inl, inr, refl, sym, ◌∙◌, ap, subst, arith, length-append}
 use Rattle.std.proofs.lemmas.List.{append-nil}
 use Rattle.std.specs.List.{Contains}
 use Rattle.history_model.specs.declared.acts.Act.{Act}
@@ -21,14 +21,13 @@ use Rattle.table_rule.specs.LogTelling.{number_seen, seen_has}
 use Rattle.table_rule.specs.LogWords.{HasNumbers}
 use Rattle.table_rule.specs.Views.{SeatView}
 use Rattle.table_rule.specs.LogChanges.{HasOpenTarget, IsOpenTarget, IsAppendable}
-use Rattle.node_table.specs.LogTurns.{HasNoTurn}
 use Rattle.node_table.specs.LogTurns.{AppendsUnderTurn, AreNextWords, ForAppended, LearnsLog, MayAppendWords, TakesLog}
-use Rattle.version_log.specs.declared.refusals.CommitRefused.{CommitRefused}
-use Rattle.version_log.specs.declared.refusals.CommitRefused.TheVariants.{LogFull, Stale}
-use Rattle.version_log.specs.declared.committed.Committed.{Committed}
-use Rattle.version_log.specs.declared.pinned.Pinned.{Pinned}
+use Rattle.version_log.specs.declared.answers.CommitRefused.{CommitRefused}
+use Rattle.version_log.specs.declared.answers.CommitRefused.TheVariants.{LogFull, Stale}
+use Rattle.version_log.specs.declared.answers.Pinned.{Pinned}
 use Rattle.version_log.specs.Commits.{AppendsNext, IsMadeOver, RefusesCommit, with_own}
-use Rattle.version_log.specs.Tries.{RefusesTry, TakesAtOnce, tried}
+use Rattle.node_table.specs.Guards.{TakesAtOnce}
+use Rattle.version_log.specs.Tries.{RefusesTry, tried}
 use Rattle.node_table.proofs.LogActs.{one_tree}
 use Rattle.node_table.specs.Seen.{PassSeen, TableSeen}
 use Rattle.table_rule.specs.Telling.{ViewTells}
@@ -238,7 +237,7 @@ appends_fewer v w line act root n made a =
     omega arith
 
 -- under the turn the log is as long as what was pinned, and so as what was seen
-seen_grows : {made : ℕ} (v t : SeatView) → TakesLog made v t → number_seen v ≤ number_seen t
+pub seen_grows : {made : ℕ} (v t : SeatView) → TakesLog made v t → number_seen v ≤ number_seen t
 seen_grows v t takes =
     let long : number_seen t ≡ length (v.log.seen.records ++ takes.more) =
     ap (λ (x : SeatView). number_seen x) takes.is
@@ -366,15 +365,6 @@ made_taken v t n act root from made =
       makes = made.makes;
     })
 
--- the same of the view that is left
-pub appends_here : (v w z : SeatView) (line : ℕ) (act : Act) (root : Option Name) (n : ℕ) → z ≡ w
-    → AppendsNext v line act root n w → AppendsNext v line act root n z
-appends_here v w z line act root n e a =
-    subst (λ (x : SeatView). AppendsNext v line act root n x) (sym e) a
-
-pub idle_here : (w z : SeatView) → z ≡ w → HasNoTurn w → HasNoTurn z
-idle_here w z e idle = subst HasNoTurn (sym e) idle
-
 -- a commit under a turn that was taken, of the view before it
 pub commits_before : {sessions : ℕ} (v t w : SeatView) (moment line : ℕ) (act : Act)
     (root : Option Name) (n : ℕ) → TakesLog sessions v t → moment ≤ number_seen v → number_seen t ≡ moment
@@ -395,13 +385,6 @@ pub base_known : {made : ℕ} (v t : SeatView) (moment : ℕ) → TakesLog made 
 base_known v t moment takes known here =
     ap (λ (x : SeatView). number_seen x)
     (sym (taken_same v t takes (omega (arith, here, known)))) ∙ here
-
--- whichever the answer is
-pub looks_before : {made : ℕ} (r : Result Committed CommitRefused) (v t w : SeatView)
-    → TakesLog made v t
-    → IfErr r (λ e. LooksOn t w) → IfErr r (λ e. LooksOn v w)
-looks_before (Ok n) v t w takes looks = tt
-looks_before (Err e) v t w takes looks = looks_on v t w (takes_looks v t takes) looks
 
 -- what is refused under the turn is refused of a try
 pub try_refused : (base : Pinned) (root : Option Name) (e : CommitRefused) (p : TableSeen)

@@ -1,26 +1,33 @@
 -- What is left where a version falls out behind a record.
-use Rattle.std.proofs.Common.{Result, Ok, Err, IfOk, ◌≡◌, ◌<◌, ◌≤◌, ℕ, Option, Some, None, List, [], ◌∷◌, inl, inr, ⊎_elim, refl, sym, ◌∙◌, ap, subst, arith}
+use Rattle.std.proofs.Common.{Result, Ok, Err, IfOk, Bool, MatchBool, true, ◌≡◌, ◌^◌, ◌<◌, ◌≤◌, ℕ, Option, Some, None, List, [], ◌∷◌, inl, inr, ⊎_elim, refl, sym, ◌∙◌, ap, subst, arith}
 use Rattle.std.specs.List.{Contains}
+use Rattle.vox_read.specs.Contents.{Content}
 use Rattle.history_model.specs.declared.acts.Act.{Act}
 use Rattle.history_model.specs.declared.histories.Mark.{Mark}
+use Rattle.history_model.specs.Logs.{FitsWorld}
 use Rattle.node_words.specs.declared.shapes.names.Name.{Name}
 use Rattle.node_words.specs.shapes.Tree.{Tree, Gone}
-use Rattle.node_words.specs.shapes.Weights.{weigh}
+use Rattle.node_words.specs.shapes.Weights.{number_of_trees, weigh}
 use Rattle.node_words.proofs.OfShapes.WeightLaws.{weight_of-gone}
 use Rattle.table_rule.specs.LogTelling.{number_seen}
 use Rattle.table_rule.specs.Views.{SeatView}
 use Rattle.node_table.specs.LogTurns.{ForgetsUnderTurn, FoundMark, FoundOpen, HasNoTurn, TakesLog, log_left, next_mark}
-use Rattle.version_log.specs.declared.committed.Committed.{Committed}
-use Rattle.version_log.specs.declared.refusals.CommitRefused.{CommitRefused}
+use Rattle.node_table.specs.Guards.{LeavesBusy, TakesAtOnce}
+use Rattle.node_table.specs.Seen.{PassSeen, TableSeen}
+use Rattle.version_log.specs.declared.answers.Pinned.{Pinned}
+use Rattle.version_log.specs.declared.answers.Committed.{Committed}
+use Rattle.version_log.specs.declared.answers.CommitRefused.{CommitRefused}
+use Rattle.version_log.specs.Coming.{CommitCame, IsCommitted, IsCommittedAtOnce, IsNotCommitted, IsNotTried, MayCommit, MayCommitHere}
 use Rattle.version_log.specs.Commits.{AppendsNext}
+use Rattle.version_log.specs.Tries.{tried}
 use Rattle.retain.specs.Retained.{falls_out}
 use Rattle.version_log.specs.Falling.{CommitsAlone, CommitsNext, FallsOut, WasMarked}
 use Rattle.version_log.specs.Forgets.{ForgetsVersion}
 use Rattle.version_log.specs.Roots.{GetsRoot}
 use Rattle.version_log.specs.Seeing.{LooksOn}
-use Rattle.version_log.proofs.AppendLaws.{commits_before}
+use Rattle.version_log.proofs.AppendLaws.{base_known, commits_before, commits_made, seen_grows, try_refused}
 use Rattle.version_log.proofs.ForgetLaws.{forgets, forgets_idle}
-use Rattle.version_log.proofs.LookLaws.{back_looks, left_on, looks_on, mark_looks, open_looks}
+use Rattle.version_log.proofs.LookLaws.{back_looks, left_on, looks_on, mark_looks, open_looks, takes_looks}
 
 -- the version had a mark, and the turn went back
 pub fell_marked : (v m w : SeatView) (u line : ℕ) (mark : Mark) → FoundMark v u mark m
@@ -121,13 +128,6 @@ commits_alone v w keep line act root c made all =
           made.appends;
     }
 
--- whichever the answer is
-pub all_alone : {E : Type 0} → (r : Result Committed E) (v w : SeatView) (keep line : ℕ) (act : Act)
-    (root : Option Name) → IfOk r (λ c. CommitsNext v keep line act root c w)
-    → IfOk r (λ c. keep ≡ 0 → CommitsAlone v line act root c w)
-all_alone (Ok c) v w keep line act root made = commits_alone v w keep line act root c made
-all_alone (Err e) v w keep line act root made = tt
-
 -- a commit under a turn that was taken, of the view before it
 pub falls_before : {made : ℕ} (v t w : SeatView) (moment keep line : ℕ) (act : Act)
     (root : Option Name) (c : Committed) → TakesLog made v t → moment ≤ number_seen v → number_seen t ≡ moment
@@ -138,10 +138,77 @@ falls_before v t w moment keep line act root c takes known here made = record {
   falls = made.falls;
 }
 
-pub all_before : {made : ℕ} (r : Result Committed CommitRefused) (v t w : SeatView)
-    (moment keep line : ℕ) (act : Act) (root : Option Name) → TakesLog made v t → moment ≤ number_seen v
-    → IfOk r (λ c. number_seen t ≡ moment) → IfOk r (λ c. CommitsNext t keep line act root c w)
-    → IfOk r (λ c. CommitsNext v keep line act root c w)
-all_before (Ok c) v t w moment keep line act root takes known here made =
-    falls_before v t w moment keep line act root c takes known here made
-all_before (Err e) v t w moment keep line act root takes known same made = tt
+-- under a turn that was taken the edit may be committed, unless another session was faster
+pub may_here : {made : ℕ} (t : TableSeen) (v w : SeatView) (base : Pinned) (act : Act)
+    (root : Option Name) → TakesLog made v w → MayCommit t v base act root
+    → MayCommitHere t w base act root
+may_here t v w base act root takes may =
+    let known = may.pinned.moment in
+    let long = seen_grows v w takes in
+    record {
+      edit = may.edit;
+      fits = subst (λ (ms : List Content). FitsWorld (2 ^ t.plan.side) ms act)
+          (sym (ap (λ (x : SeatView). x.models) takes.is)) may.fits;
+      long = omega (arith, known, long);
+      made = commits_made v w base.moment act root takes known may.made;
+    }
+
+-- what came of it is told of the view before the turn
+pub came_before : {made : ℕ} (r : Result Committed CommitRefused) (base : Pinned) (keep line : ℕ)
+    (act : Act) (root : Option Name) (v t w : SeatView) → TakesLog made v t
+    → base.moment ≤ number_seen v → CommitCame base keep line act root r t w
+    → CommitCame base keep line act root r v w
+came_before (Ok c) base keep line act root v t w takes known came =
+    record {
+      number = base_known v t base.moment takes known came.number;
+      commits = falls_before v t w base.moment keep line act root c takes known came.number
+          came.commits;
+    }
+came_before (Err e) base keep line act root v t w takes known came =
+    record {
+      refused = came.refused;
+      looks = looks_on v t w (takes_looks v t takes) came.looks;
+      kept = came.kept ∙ ap (λ (x : SeatView). x.held) takes.is;
+    }
+
+pub came_alone : (r : Result Committed CommitRefused) (base : Pinned) (keep line : ℕ) (act : Act)
+    (root : Option Name) (v w : SeatView) → CommitCame base keep line act root r v w
+    → IfOk r (λ c. keep ≡ 0 → CommitsAlone v line act root c w)
+came_alone (Ok c) base keep line act root v w came =
+    commits_alone v w keep line act root c came.commits
+came_alone (Err e) base keep line act root v w came = tt
+
+-- ---- the turn came at once
+
+pub at_once : (t : TableSeen) (s r : PassSeen) (answer : Bool) → answer ≡ true
+    → MatchBool answer (TakesAtOnce t s.view r) (LeavesBusy t s r) → TakesAtOnce t s.view r
+at_once t s r answer is told =
+    subst (λ (b : Bool). MatchBool b (TakesAtOnce t s.view r) (LeavesBusy t s r)) is told
+
+pub taken_few : {made : ℕ} (v w : SeatView) → TakesLog made v w → number_of_trees v.held ≤ 4095
+    → number_of_trees w.held ≤ 4095
+taken_few v w takes few =
+    subst (λ (ts : List Tree). number_of_trees ts ≤ 4095)
+    (sym (ap (λ (x : SeatView). x.held) takes.is)) few
+
+pub try_came : (t : TableSeen) (base : Pinned) (keep line : ℕ) (act : Act) (root : Option Name)
+    (c : Committed) (v : SeatView) (s : PassSeen) (w : SeatView) → TakesAtOnce t v s
+    → base.moment ≤ number_seen v → IsCommitted base keep line act root c s.view w
+    → w.log.busy ≡ s.view.log.busy → IsCommittedAtOnce base keep line act root c v w
+try_came t base keep line act root c v s w once known came nobody =
+    record {
+      number = base_known v s.view base.moment once.takes known came.number;
+      commits = falls_before v s.view w base.moment keep line act root c once.takes known
+          came.number came.commits;
+      met_nobody = nobody ∙ once.nobody;
+    }
+
+pub try_refuses : (t : TableSeen) (base : Pinned) (root : Option Name) (e : CommitRefused)
+    (v : SeatView) (s : PassSeen) (w : SeatView) → TakesAtOnce t v s
+    → w.log.busy ≡ s.view.log.busy → IsNotCommitted base root e s.view w
+    → IsNotTried t.made base root (tried e) v w
+try_refuses t base root e v s w once nobody came =
+    record {
+      refused = try_refused base root e t v s w once nobody came.looks came.refused;
+      kept = came.kept ∙ ap (λ (x : SeatView). x.held) once.takes.is;
+    }

@@ -11,7 +11,6 @@ use Rattle.table_rule.specs.LogTelling.{number_seen, seen_has}
 use Rattle.retain.specs.Listing.{Found}
 use Rattle.table_rule.specs.Views.{SeatView}
 use Rattle.node_table.specs.LogTurns.{FoundOpen, ForgetsUnderTurn, HasNoTurn, LearnsLog, TakesLog, next_mark}
-use Rattle.version_log.specs.declared.forgetting.Forgot.{Forgot}
 use Rattle.version_log.specs.Forgets.{ForgetsVersion}
 use Rattle.version_log.specs.Seeing.{FoundStays, IsDated, LooksOn}
 use Rattle.version_log.proofs.LookLaws.{begun_looks, open_looks, looks_on, begins_on, dated_with, others_by, others_on}
@@ -108,8 +107,3 @@ pub looked_turn : (t u m : SeatView) (n : ℕ) → t.turn ≡ None → LearnsLog
     → m.turn ≡ None
 looked_turn t u m n idle learns is_open =
     ap (λ (x : SeatView). x.turn) is_open.is ∙ ap (λ (x : SeatView). x.turn) learns.is ∙ idle
-
-pub forgets_here : (v w z : SeatView) (n line : ℕ) (f : Forgot) → z ≡ w
-    → ForgetsVersion v n line f w
-    → ForgetsVersion v n line f z
-forgets_here v w z n line f e is = subst (λ (x : SeatView). ForgetsVersion v n line f x) (sym e) is

@@ -13,8 +13,8 @@ use Rattle.retain.specs.Listing.{Found}
 use Rattle.table_rule.specs.LogTelling.{number_seen}
 use Rattle.table_rule.specs.Rules.{SameSession}
 use Rattle.table_rule.specs.Views.{SeatView}
-use Rattle.node_table.specs.Acts.{OnlySharesChange}
 use Rattle.node_table.specs.LogTurns.{FoundMark, FoundOpen, LearnsLog, LooksForMark, TakesLog, log_left, with_log}
+use Rattle.version_log.specs.Keeping.{OnlyKeeps}
 use Rattle.version_log.specs.Seeing.{FoundStays, IsDated, MetOthers, KnowsMore, LooksOn}
 
 pub begins_itself : (a : Log) → IsPrefix a a
@@ -209,20 +209,21 @@ mark_looks v n m w f =
     (ap (λ (x : SeatView). x.made) f.is)
     (ap (λ (x : SeatView). x.met) f.is)
 
-pub shares_looks : (v w : SeatView) → OnlySharesChange v w → LooksOn v w
-shares_looks v w o =
-    looks_by v w o.session
+-- a share was taken under the turn
+pub keeps_looks : (v w : SeatView) → OnlyKeeps v w → LooksOn v w
+keeps_looks v w k =
+    looks_by v w k.session
     (record {
-      seen = subst (λ (l : LogView). IsPrefix v.log.seen l.seen) (sym o.log)
+      seen = subst (λ (l : LogView). IsPrefix v.log.seen l.seen) (sym k.log)
           (begins_itself v.log.seen);
-      side = ap (λ (l : LogView). l.seen.side) o.log;
-      dated = subst (λ (l : LogView). IsDated l.seen) (sym o.log);
-      taken = ap (λ (l : LogView). l.taken) o.log;
-      found = subst (λ (l : LogView). FoundStays v.log.found l.found) (sym o.log)
+      side = ap (λ (l : LogView). l.seen.side) k.log;
+      dated = subst (λ (l : LogView). IsDated l.seen) (sym k.log);
+      taken = ap (λ (l : LogView). l.taken) k.log;
+      found = subst (λ (l : LogView). FoundStays v.log.found l.found) (sym k.log)
           (found_itself v.log.found);
     })
-    (ap (λ (l : LogView). l.records) o.log) (ap (λ (l : LogView). l.marks) o.log)
-    (others_by v.numbers v.log.busy w.log.busy (ap (λ (l : LogView). l.busy) o.log)) o.made o.met
+    (ap (λ (l : LogView). l.records) k.log) (ap (λ (l : LogView). l.marks) k.log)
+    (others_by v.numbers v.log.busy w.log.busy (ap (λ (l : LogView). l.busy) k.log)) k.made k.met
 
 pub left_looks : (v w : SeatView) → w ≡ log_left v → LooksOn v w
 left_looks v w e =
@@ -245,24 +246,11 @@ begun_looks v w z t l = looks_on v w z (takes_looks v w t) (learns_looks w z l)
 pub left_on : (v w z : SeatView) → LooksOn v w → z ≡ log_left w → LooksOn v z
 left_on v w z f e = looks_on v w z f (left_looks w z e)
 
--- a root was read, and shares of the pass that was lent changed
-pub rooted_looks : (v w lent z : SeatView) → LearnsLog v w → lent ≡ w → OnlySharesChange lent z
-    → LooksOn v z
-rooted_looks v w lent z l e o =
-    looks_on v w z (learns_looks v w l)
-    (subst (λ (x : SeatView). LooksOn x z) e (shares_looks lent z o))
-
 -- a version was looked at
 pub found_looks : (v : SeatView) (n : ℕ) (o : Option Mark) (w : SeatView) → LooksForMark v n o w
     → LooksOn v w
 found_looks v n None w f = open_looks v n w f
 found_looks v n (Some m) w f = mark_looks v n m w f
-
-pub looked : (v u w z : SeatView) (n : ℕ) (o : Option Mark) → u ≡ v → LooksForMark u n o w → z ≡ w
-    → LooksOn v z
-looked v u w z n o same f e =
-    subst (λ (x : SeatView). LooksOn v x) (sym e)
-    (subst (λ (x : SeatView). LooksOn x w) same (found_looks u n o w f))
 
 -- nothing was learned
 pub learns_same : (v w : SeatView) → w ≡ v → LearnsLog v w

@@ -18,7 +18,7 @@ use Rattle.core_laws.proofs.OfContents.WorldBlocks.{in_world, in_block}
 use Rattle.table_rule.specs.LogTelling.{number_seen, seen_has}
 use Rattle.table_rule.specs.Telling.{ViewTells}
 use Rattle.table_rule.specs.Views.{SeatView}
-use Rattle.version_log.specs.declared.pinned.Pinned.{Pinned}
+use Rattle.version_log.specs.declared.answers.Pinned.{Pinned}
 use Rattle.retain.specs.declared.refusals.PinRefused.{PinRefused}
 use Rattle.retain.specs.declared.refusals.PinRefused.TheVariants.{NoVersion, Forgotten}
 use Rattle.version_log.specs.Pins.{IsPinned, RefusesPin}

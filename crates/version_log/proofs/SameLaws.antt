@@ -101,12 +101,6 @@ others_stay v w n (Some m) at u f other is =
           (sym (ap (λ (x : SeatView). x.log.found) f.is)) is.found;
     }
 
-pub others_here : (v t w z : SeatView) (n : ℕ) (o : Option Mark) (at : ℕ) → t ≡ v → z ≡ w
-    → LooksForMark t n o w → (u : ℕ) → u ≢ n → IsFoundOpen v u at → IsFoundOpen z u at
-others_here v t w z n o at from to f u other is =
-    subst (λ (x : SeatView). IsFoundOpen x u at) (sym to)
-    (others_stay t w n o at u f other (subst (λ (x : SeatView). IsFoundOpen x u at) (sym from) is))
-
 -- the first version was found, and the second one refused
 pub second_refused : (v w at : ℕ) (e : SameRefused) (x z : SeatView) → number_seen x ≡ at
     → v ≢ w → ((u : ℕ) → u ≢ w → IsFoundOpen x u at → IsFoundOpen z u at) → number_seen z ≡ at

@@ -9,9 +9,9 @@ use Rattle.node_words.specs.shapes.Tree.{Tree}
 use Rattle.edit_walk.specs.blocks.Blocks.{GoesBack}
 use Rattle.table_rule.specs.LogTelling.{number_seen, seen_has}
 use Rattle.table_rule.specs.Views.{SeatView}
-use Rattle.version_log.specs.declared.pinned.Pinned.{Pinned}
-use Rattle.version_log.specs.declared.refusals.CommitRefused.{CommitRefused}
-use Rattle.version_log.specs.declared.refusals.CommitRefused.TheVariants.{LogFull, Stale}
+use Rattle.version_log.specs.declared.answers.Pinned.{Pinned}
+use Rattle.version_log.specs.declared.answers.CommitRefused.{CommitRefused}
+use Rattle.version_log.specs.declared.answers.CommitRefused.TheVariants.{LogFull, Stale}
 use Rattle.version_log.specs.Roots.{HoldsRootOf}
 use Rattle.version_log.specs.Seeing.{MetOthers}
 

@@ -6,7 +6,7 @@ use Rattle.node_words.specs.declared.shapes.names.Name.{Name}
 use Rattle.table_rule.specs.LogTelling.{number_seen}
 use Rattle.table_rule.specs.Views.{SeatView}
 use Rattle.retain.specs.Retained.{falls_out}
-use Rattle.version_log.specs.declared.committed.Committed.{Committed}
+use Rattle.version_log.specs.declared.answers.Committed.{Committed}
 use Rattle.version_log.specs.Commits.{AppendsNext}
 use Rattle.version_log.specs.Forgets.{ForgetsVersion}
 use Rattle.version_log.specs.Seeing.{HasSeenMark, LooksOn}

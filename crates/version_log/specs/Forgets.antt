@@ -9,7 +9,7 @@ use Rattle.core_laws.specs.contents.Aligned.{world_block}
 use Rattle.table_rule.specs.LogTelling.{number_seen, seen_has}
 use Rattle.table_rule.specs.Rules.{SameSession}
 use Rattle.table_rule.specs.Views.{SeatView}
-use Rattle.version_log.specs.declared.forgetting.Forgot.{Forgot}
+use Rattle.version_log.specs.declared.answers.Forgot.{Forgot}
 use Rattle.retain.specs.declared.refusals.ForgetRefused.{ForgetRefused}
 use Rattle.retain.specs.declared.refusals.ForgetRefused.TheVariants.{NoVersion, IsHead, Forgotten}
 use Rattle.version_log.specs.Seeing.{MetOthers, KnowsMore, HasSeenMark}

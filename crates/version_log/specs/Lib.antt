@@ -13,3 +13,4 @@ pub mod Keeping
 pub mod Looking
 pub mod Finishing
 pub mod Falling
+pub mod Coming

@@ -4,7 +4,7 @@ use Rattle.std.specs.List.{Contains}
 use Rattle.core_laws.specs.contents.Versions.{IsUnmarked}
 use Rattle.table_rule.specs.Views.{SeatView}
 use Rattle.table_rule.specs.LogTelling.{number_seen, seen_has}
-use Rattle.version_log.specs.declared.pinned.Pinned.{Pinned}
+use Rattle.version_log.specs.declared.answers.Pinned.{Pinned}
 use Rattle.retain.specs.declared.refusals.PinRefused.{PinRefused}
 use Rattle.retain.specs.declared.refusals.PinRefused.TheVariants.{NoVersion, Forgotten}
 use Rattle.version_log.specs.Roots.{HoldsRootOf, GetsRoot}

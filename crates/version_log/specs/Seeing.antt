@@ -8,6 +8,13 @@ use Rattle.retain.specs.Listing.{Found}
 use Rattle.table_rule.specs.Rules.{SameSession}
 use Rattle.table_rule.specs.Views.{SeatView}
 use Rattle.table_rule.specs.LogTelling.{number_seen}
+use Rattle.node_table.specs.LogTurns.{HasNoTurn}
+use Rattle.node_table.specs.Seen.{BelongsTo, PassSeen, TableSeen}
+
+-- the pass is one of the table's, and has no turn
+pub record StandsFree (t : TableSeen) (s : PassSeen) : Type 0 where
+  pub of : BelongsTo t s
+  pub idle : HasNoTurn s.view
 
 -- no pair of what was found is lost
 pub record FoundStays (old new : List Found) : Type 0 where

@@ -3,21 +3,14 @@ use Rattle.std.specs.Prelude.{◌≡◌, ℕ, Option}
 use Rattle.std.specs.List.{Contains}
 use Rattle.node_words.specs.declared.shapes.names.Name.{Name}
 use Rattle.table_rule.specs.Views.{SeatView}
-use Rattle.node_table.specs.LogTurns.{HasLogTurn, IsBusy, TakesLog}
-use Rattle.node_table.specs.Seen.{TableSeen, PassSeen}
-use Rattle.version_log.specs.declared.pinned.Pinned.{Pinned}
-use Rattle.version_log.specs.declared.refusals.CommitRefused.{CommitRefused}
-use Rattle.version_log.specs.declared.refusals.CommitRefused.TheVariants.{LogFull, Stale}
-use Rattle.version_log.specs.declared.refusals.TryRefused.{TryRefused}
-use Rattle.version_log.specs.declared.refusals.TryRefused.TheVariants as tries
+use Rattle.node_table.specs.LogTurns.{IsBusy}
+use Rattle.version_log.specs.declared.answers.Pinned.{Pinned}
+use Rattle.version_log.specs.declared.answers.CommitRefused.{CommitRefused}
+use Rattle.version_log.specs.declared.answers.CommitRefused.TheVariants.{LogFull, Stale}
+use Rattle.version_log.specs.declared.answers.TryRefused.{TryRefused}
+use Rattle.version_log.specs.declared.answers.TryRefused.TheVariants as tries
 use Rattle.version_log.specs.Commits.{RefusesCommit}
 use Rattle.version_log.specs.Seeing.{LooksOn}
-
--- the log's turn came, and no other session was met that has it
-pub record TakesAtOnce (t : TableSeen) (v : SeatView) (s : PassSeen) : Type 0 where
-  pub turn : HasLogTurn t s
-  pub takes : TakesLog t.made v s.view
-  pub nobody : s.view.log.busy ≡ v.log.busy
 
 -- the same refusal, as one of a try
 abbrev pub tried : CommitRefused → TryRefused

@@ -1,9 +1,15 @@
-// What is kept under the log's turn of where an undo and a redo lead.
-ghost use Rattle.std.specs.Prelude.{◌≡◌};
+// Where an undo and a redo lead, as the log's words tell under its turn.
+ghost use Rattle.std.specs.Prelude.{◌≡◌, ◌≤◌, IfSome};
+ghost use Rattle.table_rule.specs.LogTelling.{number_seen};
+ghost use Rattle.node_table.specs.LogTurns.{HasLogTurn, LearnsLog};
+ghost use Rattle.undo.specs.Standings.{version_of};
+ghost use Rattle.version_log.specs.Reading.{ReadsOn};
+ghost use Rattle.version_log.specs.Targets.{KnowsNext, StandsBehind, act_target};
 ghost use Rattle.version_log.specs.Targets.{keep_for, kept_for, nothing_kept};
 
 use history_model::Act;
-use undo::Standing;
+use node_table::{NodeTable, Pass, log_length, log_word, log_words};
+use undo::{LogWords, Standing, behind_redo, behind_undo};
 
 /// Where the history would stand behind an undo and behind a redo, as far as it was looked up under
 /// this turn.
@@ -50,5 +56,110 @@ impl Ahead {
             },
             _ => self,
         }
+    }
+}
+
+/// The log of a table, which is read by a pass that has its turn.
+pub(crate) struct UnderTurn<'a> {
+    pub(crate) table: &'a NodeTable,
+    pub(crate) pass: &'a mut Pass,
+}
+
+impl LogWords for UnderTurn<'_> {
+    ghost use Rattle.version_log.specs.Reading.{IsUnderTurn, ReadsOn, reads_itself, reads_on};
+    ghost use Rattle.version_log.specs.Reading.{records_read};
+
+    ghost records = { records_read };
+
+    ghost readable = { IsUnderTurn };
+
+    ghost rests = { ReadsOn };
+
+    fn len(&mut self) -> u32 {
+        log_length(self.table, self.pass)
+    }
+
+    fn words(&mut self, n: u32) -> [u64; 5] {
+        self.pass.tell();
+        log_words(self.table, self.pass, n)
+    }
+
+    fn first_word(&mut self, n: u32) -> u64 {
+        self.pass.tell();
+        log_word(self.table, self.pass, n, 0)
+    }
+
+    ghost rests_itself = { reads_itself };
+
+    ghost rests_on = { reads_on };
+}
+
+impl<'a> UnderTurn<'a> {
+    // Where the history would stand behind an undo or a redo, where that goes anywhere. An edit
+    // goes nowhere.
+    fn behind(&mut self, act: &Act) -> Option<Standing>
+        requires { HasLogTurn self.old.table.now self.old.pass.now }
+        ensures turn { HasLogTurn self.new.table.now self.new.pass.now }
+        ensures reads { ReadsOn self.old self.new }
+        ensures target { version_of result
+            ≡ act_target self.old.pass.now.view.log.seen.records act.now }
+        ensures behind { IfSome result
+            (StandsBehind self.old.pass.now.view.log.seen.records act.now) }
+    {
+        self.pass.tell();
+        match act {
+            Act::Undo => behind_undo(self),
+            Act::Redo => behind_redo(self),
+            _ => None,
+        }
+    }
+}
+
+// The same by a pass that has the log's turn.
+pub(crate) fn look_behind(table: &NodeTable, pass: &mut Pass, act: &Act) -> Option<Standing>
+    requires { HasLogTurn table.now pass.old }
+    ensures turn { HasLogTurn table.now pass.new }
+    ensures target { version_of result ≡ act_target pass.old.view.log.seen.records act.now }
+    ensures behind { IfSome result (StandsBehind pass.old.view.log.seen.records act.now) }
+    ensures learns { LearnsLog pass.old.view pass.new.view }
+{
+    let mut log = UnderTurn { table, pass };
+    let behind = log.behind(act);
+    let UnderTurn { table: _, pass: _ } = log;
+    behind
+}
+
+// The version that then stands.
+pub(crate) fn version_of(behind: Option<Standing>) -> Option<u32>
+    ensures { result ≡ version_of behind }
+{
+    match behind {
+        Some(standing) => Some(standing.now),
+        None => None,
+    }
+}
+
+/// The version that an undo or a redo goes to, where there is one, and what of that look is handed
+/// to `finish`.
+#[derive(Clone, Copy)]
+pub struct Lead {
+    pub to: Option<u32>,
+    pub ahead: Ahead,
+}
+
+/// As `Sure::target`, by a pass that has the log's turn.
+pub fn target(table: &NodeTable, pass: &mut Pass, act: &Act) -> Lead
+    requires turn { HasLogTurn table.now pass.old }
+    ensures turn { HasLogTurn table.now pass.new }
+    ensures target { result.to ≡ act_target pass.old.view.log.seen.records act.now }
+    ensures there { IfSome result.to (λ to. to ≤ number_seen pass.old.view) }
+    ensures learns { LearnsLog pass.old.view pass.new.view }
+    ensures known { KnowsNext pass.new.view.log.seen.records act.now result.ahead }
+{
+    let behind = look_behind(table, pass, act);
+    let ahead = nothing_kept().keep_for(act, behind);
+    Lead {
+        to: version_of(behind),
+        ahead,
     }
 }

@@ -1,23 +1,18 @@
 // Records behind which the last versions alone are kept.
-ghost use Rattle.std.specs.Prelude.{◌≡◌, ◌<◌, ◌≤◌, ◌^◌, ◌∷◌, ℕ, Some, [], IfSome};
-ghost use Rattle.history_model.specs.Logs.{FitsWorld};
+ghost use Rattle.std.specs.Prelude.{◌≡◌, ◌<◌, ◌≤◌, Some, IfSome};
 ghost use Rattle.node_words.specs.shapes.Weights.{number_of_trees};
-ghost use Rattle.table_rule.specs.LogTelling.{IsShownUnmarked, number_seen};
-ghost use Rattle.table_rule.specs.LogChanges.{HasOpenTarget};
-ghost use Rattle.node_table.specs.LogTurns.{ForgetsUnderTurn, HasLogTurn, HasNoTurn};
-ghost use Rattle.node_table.specs.LogTurns.{log_left, next_mark};
-ghost use Rattle.node_table.specs.Seen.{BelongsTo};
+ghost use Rattle.table_rule.specs.LogTelling.{number_seen};
+ghost use Rattle.node_table.specs.LogTurns.{HasLogTurn, log_left};
 ghost use Rattle.retain.specs.Retained.{falls_out};
+ghost use Rattle.version_log.specs.Coming.{MayFinish};
 ghost use Rattle.version_log.specs.Falling.{CommitsNext, FallsOut};
-ghost use Rattle.version_log.specs.Targets.{IsMadeNow, KnowsNext};
+ghost use Rattle.version_log.specs.Seeing.{StandsFree};
 
 use crate::ahead::Ahead;
-use crate::committed::Committed;
+use crate::answers::Committed;
 use crate::finishing::append_next;
-use crate::looking::mark;
-use crate::sures::leave;
 use history_model::Act;
-use node_table::{LogTurn, NodeTable, Pass};
+use node_table::{NodeTable, Pass, leave_log, log_forget, log_mark};
 use node_words::Share;
 
 // The version that falls out of the last `keep` as record n comes.
@@ -31,38 +26,22 @@ fn falls_out(n: u32, keep: u32) -> Option<u32>
     None
 }
 
-// Forgets a version that was shown to have no mark. The turn is given back.
-fn forget_open(table: &NodeTable, pass: &mut Pass, v: u32, line: u32) -> Option<Share>
-    requires turn { HasLogTurn table.now pass.old }
-    requires earlier { v < number_seen pass.old.view }
-    requires unmarked { IsShownUnmarked pass.old.view v }
-    requires room { number_of_trees pass.old.view.held ≤ 4095 }
-    ensures of { BelongsTo table.now pass.new }
-    ensures forgot { (number : ℕ) → pass.old.view.numbers ≡ number ∷ []
-        → ForgetsUnderTurn pass.old.view (next_mark pass.old.view v number line) result
-        pass.new.view }
-{
-    let turn = LogTurn::of(table, pass);
-    turn.forget(v, line)
-}
-
 // Forgets a version, where it has no mark. The turn is given back.
 fn forget_fallen(table: &NodeTable, pass: &mut Pass, v: u32, line: u32) -> Option<Share>
     requires turn { HasLogTurn table.now pass.old }
     requires earlier { v < number_seen pass.old.view }
     requires room { number_of_trees pass.old.view.held ≤ 4095 }
-    ensures of { BelongsTo table.now pass.new }
-    ensures idle { HasNoTurn pass.new.view }
+    ensures free { StandsFree table.now pass.new }
     ensures falls { FallsOut (Some v) line (number_seen pass.old.view) result
         (log_left pass.old.view) pass.new.view }
     ensures met_nobody { pass.new.view.log.busy ≡ pass.old.view.log.busy }
 {
     let number = pass.number();
-    if let Some(_mark) = mark(table, pass, v) {
-        leave(table, pass);
+    if let Some(_mark) = log_mark(table, pass, v) {
+        leave_log(table, pass);
         return None;
     }
-    let root = forget_open(table, pass, v, line);
+    let root = log_forget(table, pass, v, line);
     let _number = number;
     root
 }
@@ -83,12 +62,8 @@ pub(crate) fn append_kept(
     requires at { at ≡ number_seen pass.old.view }
     requires room { at < 65535 }
     requires held { number_of_trees pass.old.view.held ≤ 4095 }
-    requires fits { FitsWorld (2 ^ table.now.plan.side) pass.old.view.models act.now }
-    requires target { HasOpenTarget pass.old.view act.now }
-    requires known { KnowsNext pass.old.view.log.seen.records act.now ahead }
-    requires made { IsMadeNow pass.old.view act.now root }
-    ensures of { BelongsTo table.now pass.new }
-    ensures idle { HasNoTurn pass.new.view }
+    requires may { MayFinish table.now pass.old.view ahead act.now root }
+    ensures free { StandsFree table.now pass.new }
     ensures commits { CommitsNext pass.old.view keep line act.now root result pass.new.view }
     ensures met_nobody { pass.new.view.log.busy ≡ pass.old.view.log.busy }
 {
@@ -99,7 +74,7 @@ pub(crate) fn append_kept(
             fallen: forget_fallen(table, pass, v, line),
         },
         None => {
-            leave(table, pass);
+            leave_log(table, pass);
             Committed { n, fallen: None }
         }
     }

@@ -1,28 +1,23 @@
 // Records that are appended under the log's turn, whatever their act.
-ghost use Rattle.std.specs.Prelude.{◌≡◌, ◌<◌, ◌≤◌, ◌+◌, ◌^◌, false, IfOk, IfErr, IfSome};
-ghost use Rattle.history_model.specs.Logs.{FitsWorld};
+ghost use Rattle.std.specs.Prelude.{◌≡◌, ◌<◌, ◌≤◌, false, IfOk, IfSome};
 ghost use Rattle.history_model.specs.Worlds.{is_edit};
 ghost use Rattle.node_words.specs.shapes.Weights.{number_of_trees};
 ghost use Rattle.table_rule.specs.LogTelling.{number_seen};
 ghost use Rattle.table_rule.specs.LogChanges.{HasOpenTarget};
-ghost use Rattle.node_table.specs.LogTurns.{AppendsInTurn, ForAppended, HasLogTurn, HasNoTurn};
-ghost use Rattle.node_table.specs.LogTurns.{LearnsLog, MayAppendWords, log_left};
-ghost use Rattle.node_table.specs.Seen.{BelongsTo};
+ghost use Rattle.node_table.specs.LogTurns.{HasLogTurn, LearnsLog, log_left};
+ghost use Rattle.version_log.specs.Coming.{FinishCame, MayFinish};
 ghost use Rattle.version_log.specs.Commits.{AppendsNext};
-ghost use Rattle.version_log.specs.Falling.{CommitsAlone, CommitsNext};
-ghost use Rattle.version_log.specs.Finishing.{RefusesFinish};
-ghost use Rattle.version_log.specs.Seeing.{LooksOn};
-ghost use Rattle.version_log.specs.Targets.{IsMadeNow, KnowsNext, StandsBehind};
+ghost use Rattle.version_log.specs.Falling.{CommitsAlone};
+ghost use Rattle.version_log.specs.Seeing.{StandsFree};
+ghost use Rattle.version_log.specs.Targets.{KnowsNext, StandsBehind};
 
-use crate::ahead::{Ahead, nothing_kept};
+use crate::ahead::{Ahead, look_behind};
+use crate::answers::{Committed, SureRefused};
 use crate::commits::MOST_RECORDS;
-use crate::committed::Committed;
 use crate::falling::append_kept;
-use crate::refusals::SureRefused;
-use crate::sures::{Sure, leave};
 use crate::words::{record_words, tell_numbers};
 use history_model::Act;
-use node_table::{LogTurn, NodeTable, Pass};
+use node_table::{NodeTable, Pass, leave_log, log_append_on, log_length};
 use node_words::Share;
 use undo::Standing;
 
@@ -40,18 +35,7 @@ fn stands_behind(table: &NodeTable, pass: &mut Pass, kept: Option<Standing>, act
     if let Some(standing) = kept {
         return standing;
     }
-    let mut sure = Sure {
-        table,
-        pass,
-        ahead: nothing_kept(),
-    };
-    let behind = sure.look_behind(act);
-    let Sure {
-        table: _,
-        pass: _,
-        ahead: _,
-    } = sure;
-    match behind {
+    match look_behind(table, pass, act) {
         Some(standing) => standing,
         None => unreachable!(),
     }
@@ -77,21 +61,6 @@ fn stands_next(table: &NodeTable, pass: &mut Pass, ahead: Ahead, act: &Act, at: 
     }
 }
 
-// Appends the record of these words. The turn is kept.
-fn append_words(table: &NodeTable, pass: &mut Pass, words: [u64; 5], root: Option<Share>) -> u32
-    requires turn { HasLogTurn table.now pass.old }
-    requires may { MayAppendWords table.now.plan pass.old.view words root }
-    ensures turn { HasLogTurn table.now pass.new }
-    ensures number { result ≡ number_seen pass.old.view + 1 }
-    ensures appended { ForAppended table.now.plan pass.old.view words root
-        (λ r t. AppendsInTurn pass.old.view r t pass.new.view) }
-{
-    let mut turn = LogTurn::of(table, pass);
-    let n = turn.append_on(words, root);
-    turn.rest();
-    n
-}
-
 // Appends the next record, whatever its act. The turn is kept.
 pub(crate) fn append_next(
     table: &NodeTable,
@@ -105,10 +74,7 @@ pub(crate) fn append_next(
     requires turn { HasLogTurn table.now pass.old }
     requires at { at ≡ number_seen pass.old.view }
     requires room { at < 65535 }
-    requires fits { FitsWorld (2 ^ table.now.plan.side) pass.old.view.models act.now }
-    requires target { HasOpenTarget pass.old.view act.now }
-    requires known { KnowsNext pass.old.view.log.seen.records act.now ahead }
-    requires made { IsMadeNow pass.old.view act.now root }
+    requires may { MayFinish table.now pass.old.view ahead act.now root }
     ensures turn { HasLogTurn table.now pass.new }
     ensures appends { AppendsNext pass.old.view line act.now root result
         (log_left pass.new.view) }
@@ -121,7 +87,7 @@ pub(crate) fn append_next(
     let number = pass.number();
     let Standing { now, last } = stands_next(table, pass, ahead, act, at);
     let words = record_words(act, now, last, number, line);
-    append_words(table, pass, words, root)
+    log_append_on(table, pass, words, root)
 }
 
 /// As `Sure::finish`, by a pass that has the log's turn.
@@ -136,39 +102,16 @@ pub fn finish(
 ) -> Result<Committed, SureRefused>
     requires turn { HasLogTurn table.now pass.old }
     requires room { number_of_trees pass.old.view.held ≤ 4095 }
-    requires fits { FitsWorld (2 ^ table.now.plan.side) pass.old.view.models act.now }
-    requires target { HasOpenTarget pass.old.view act.now }
-    requires known { KnowsNext pass.old.view.log.seen.records act.now ahead }
-    requires made { IsMadeNow pass.old.view act.now root }
-    ensures of { BelongsTo table.now pass.new }
-    ensures idle { HasNoTurn pass.new.view }
-    ensures commits { IfOk result
-        (λ c. CommitsNext pass.old.view keep line act.now root c pass.new.view) }
+    requires may { MayFinish table.now pass.old.view ahead act.now root }
+    ensures free { StandsFree table.now pass.new }
+    ensures came { FinishCame keep line act.now root result pass.old.view pass.new.view }
     ensures alone { IfOk result
         (λ c. keep ≡ 0 → CommitsAlone pass.old.view line act.now root c pass.new.view) }
-    ensures refused { IfErr result (λ e. RefusesFinish root e pass.new.view) }
-    ensures left { IfErr result (λ e. pass.new.view ≡ log_left pass.old.view) }
-    ensures looks { IfErr result (λ e. LooksOn pass.old.view pass.new.view) }
-    ensures kept { IfErr result (λ e. pass.new.view.held ≡ pass.old.view.held) }
 {
-    let at = length(table, pass);
+    let at = log_length(table, pass);
     if at == MOST_RECORDS {
-        leave(table, pass);
+        leave_log(table, pass);
         return Err(SureRefused::LogFull { root });
     }
     Ok(append_kept(table, pass, ahead, at, line, act, root, keep))
-}
-
-/// How many records the log has, by a pass that has its turn.
-pub fn length(table: &NodeTable, pass: &mut Pass) -> u32
-    requires { HasLogTurn table.now pass.old }
-    ensures turn { HasLogTurn table.now pass.new }
-    ensures same { pass.new ≡ pass.old }
-    ensures number { result ≡ number_seen pass.old.view }
-    ensures few { result ≤ 65535 }
-{
-    let mut turn = LogTurn::of(table, pass);
-    let at = turn.len();
-    turn.rest();
-    at
 }

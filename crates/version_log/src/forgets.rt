@@ -1,13 +1,11 @@
 // Versions that are forgotten.
 ghost use Rattle.std.specs.Prelude.{◌≡◌, ◌≤◌, IfOk, IfErr};
 ghost use Rattle.node_words.specs.shapes.Weights.{number_of_trees};
-ghost use Rattle.node_table.specs.LogTurns.{HasNoTurn};
-ghost use Rattle.node_table.specs.Seen.{BelongsTo};
 ghost use Rattle.version_log.specs.Forgets.{ForgetsVersion, RefusesForget};
-ghost use Rattle.version_log.specs.Seeing.{LooksOn};
+ghost use Rattle.version_log.specs.Seeing.{StandsFree, LooksOn};
 
-use crate::forgetting::Forgot;
-use node_table::{NodeTable, Pass};
+use crate::answers::Forgot;
+use node_table::{NodeTable, Pass, leave_log, log_forget, log_length, log_mark, take_log};
 use retain::ForgetRefused;
 use std::sync::Wait;
 
@@ -20,32 +18,30 @@ pub fn forget<R: Wait>(
     v: u32,
     line: u32,
 ) -> Result<Forgot, ForgetRefused>
-    requires of { BelongsTo table.now pass.old }
-    requires idle { HasNoTurn pass.old.view }
+    requires free { StandsFree table.now pass.old }
     requires room { number_of_trees pass.old.view.held ≤ 3900 }
-    ensures of { BelongsTo table.now pass.new }
-    ensures idle { HasNoTurn pass.new.view }
+    ensures free { StandsFree table.now pass.new }
     ensures forgets { IfOk result (λ f. ForgetsVersion pass.old.view v line f pass.new.view) }
     ensures refused { IfErr result (λ e. RefusesForget v e pass.new.view) }
     ensures looks { IfErr result (λ e. LooksOn pass.old.view pass.new.view) }
     ensures kept { IfErr result (λ e. pass.new.view.held ≡ pass.old.view.held) }
 {
     let number = pass.number();
-    let mut turn = table.log_turn(rt, pass);
-    let at = turn.len();
+    take_log(rt, table, pass);
+    let at = log_length(table, pass);
     if v > at {
-        turn.leave();
+        leave_log(table, pass);
         return Err(ForgetRefused::NoVersion { at });
     }
     if v == at {
-        turn.leave();
+        leave_log(table, pass);
         return Err(ForgetRefused::IsHead { at });
     }
-    if let Some(mark) = turn.mark(v) {
-        turn.leave();
+    if let Some(mark) = log_mark(table, pass, v) {
+        leave_log(table, pass);
         return Err(ForgetRefused::Forgotten { at, mark });
     }
-    let root = turn.forget(v, line);
+    let root = log_forget(table, pass, v, line);
     let _number = number;
     Ok(Forgot { at, root })
 }

@@ -23,46 +23,35 @@
 //! `forget` takes. The turn is taken by 1 exchange and given back by 1 store.
 //!
 //! `Sure` is the turn as a value. Who hands the pass on between its calls makes them on the pass:
-//! `take`, then `length`, `mark`, `target` and `keep_version`, then `finish` or `leave`.
+//! `take_log` of `node_table`, then what looks there, `target` and `keep_version`, then `finish` or
+//! `leave_log`.
 #![tactic(auto)]
 
 mod ahead;
+mod answers;
 mod commits;
-mod committed;
 mod falling;
 mod finishing;
 mod forgets;
-mod forgetting;
-mod heads;
-mod keeping;
 mod laws;
-mod looking;
-mod pinned;
 mod pins;
-mod refusals;
 mod roots;
 mod sames;
 mod sures;
 mod taking;
-mod traits;
 mod tries;
 mod words;
 
-pub use ahead::{Ahead, nothing_kept};
+pub use ahead::{Ahead, Lead, nothing_kept, target};
+pub use answers::{CommitRefused, Committed, Forgot, Pinned, SureRefused, TryRefused};
 pub use commits::commit;
-pub use committed::Committed;
-pub use finishing::{finish, length};
+pub use finishing::finish;
 pub use forgets::forget;
-pub use forgetting::Forgot;
-pub use heads::head;
-pub use keeping::keep_version;
 pub use laws::{pins_stay_and_tell, sessions_alone_are_never_busy};
-pub use looking::{Lead, mark, target};
-pub use pinned::Pinned;
 pub use pins::pin;
-pub use refusals::{CommitRefused, SureRefused, TryRefused};
 pub use retain::{ForgetRefused, PinRefused, SameAt, SameRefused};
-pub use sames::same;
-pub use sures::{Sure, leave};
-pub use taking::{sure, take};
+pub use roots::keep_version;
+pub use sames::{head, same};
+pub use sures::Sure;
+pub use taking::sure;
 pub use tries::try_commit;

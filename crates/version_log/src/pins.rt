@@ -1,16 +1,13 @@
 // Versions that are pinned.
 ghost use Rattle.std.specs.Prelude.{◌≡◌, ◌≤◌, ◌+◌, IfOk, IfErr};
 ghost use Rattle.node_words.specs.shapes.Weights.{number_of_trees};
-ghost use Rattle.node_table.specs.LogTurns.{HasNoTurn};
-ghost use Rattle.node_table.specs.Seen.{BelongsTo};
 ghost use Rattle.version_log.specs.Pins.{PinsVersion, RefusesPin, version_asked};
 ghost use Rattle.version_log.specs.Roots.{turns_for};
-ghost use Rattle.version_log.specs.Seeing.{LooksOn};
+ghost use Rattle.version_log.specs.Seeing.{StandsFree, LooksOn};
 
-use crate::pinned::Pinned;
-use crate::roots::keep_root;
-use crate::sures::leave;
-use node_table::{NodeTable, Pass};
+use crate::answers::Pinned;
+use crate::roots::keep_version;
+use node_table::{NodeTable, Pass, leave_log, log_length, log_mark, take_log};
 use node_words::Steps;
 use retain::PinRefused;
 use std::sync::Wait;
@@ -36,11 +33,9 @@ pub fn pin<R: Wait, L: Ledger>(
     version: Option<u32>,
     steps: &mut Steps<L>,
 ) -> Result<Pinned, PinRefused>
-    requires of { BelongsTo table.now pass.old }
-    requires idle { HasNoTurn pass.old.view }
+    requires free { StandsFree table.now pass.old }
     requires room { number_of_trees pass.old.view.held ≤ 3900 }
-    ensures of { BelongsTo table.now pass.new }
-    ensures idle { HasNoTurn pass.new.view }
+    ensures free { StandsFree table.now pass.new }
     ensures looks { LooksOn pass.old.view pass.new.view }
     ensures pinned { IfOk result (λ p. PinsVersion pass.old.view version p pass.new.view) }
     ensures refused { IfErr result (λ e. RefusesPin version e pass.new.view) }
@@ -48,21 +43,19 @@ pub fn pin<R: Wait, L: Ledger>(
     ensures steps { IfOk result (λ p. steps.new ≡ steps.old + turns_for p.root) }
     ensures no_step { IfErr result (λ e. steps.new ≡ steps.old) }
 {
-    let mut turn = table.log_turn(rt, pass);
-    let at = turn.len();
+    take_log(rt, table, pass);
+    let at = log_length(table, pass);
     let version = version_asked(version, at);
     if version > at {
-        turn.leave();
+        leave_log(table, pass);
         return Err(PinRefused::NoVersion { at });
     }
-    if let Some(mark) = turn.mark(version) {
-        turn.leave();
+    if let Some(mark) = log_mark(table, pass, version) {
+        leave_log(table, pass);
         return Err(PinRefused::Forgotten { at, mark });
     }
-    let root = turn.root(version);
-    turn.rest();
-    let root = keep_root(rt, table, pass, version, root, steps);
-    leave(table, pass);
+    let root = keep_version(rt, table, pass, version, steps);
+    leave_log(table, pass);
     Ok(Pinned {
         version,
         moment: at,

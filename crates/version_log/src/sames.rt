@@ -1,17 +1,12 @@
-// Versions that are compared.
+// Versions that are compared, and the head of the log.
 ghost use Rattle.std.specs.Prelude.{◌≡◌, ◌≢◌, ◌↔◌, ◌^◌, ℕ, IsTrue, IfOk, IfErr};
 ghost use Rattle.core_laws.specs.contents.Versions.{SameWorld};
 ghost use Rattle.table_rule.specs.LogTelling.{IsShownUnmarked, number_seen, seen_has};
-ghost use Rattle.node_table.specs.LogTurns.{HasLogTurn, HasNoTurn, LearnsLog};
-ghost use Rattle.node_table.specs.Seen.{BelongsTo};
+ghost use Rattle.node_table.specs.LogTurns.{HasLogTurn, LearnsLog};
 ghost use Rattle.version_log.specs.Sames.{IsFoundOpen, RefusesVersion, RefusesSame, TellsSame};
-ghost use Rattle.version_log.specs.Seeing.{LooksOn};
+ghost use Rattle.version_log.specs.Seeing.{StandsFree, LooksOn};
 
-use crate::finishing::length;
-use crate::keeping::root_of;
-use crate::sures::leave;
-use crate::taking::take;
-use node_table::{LogTurn, NodeTable, Pass};
+use node_table::{NodeTable, Pass, leave_log, log_length, log_mark, log_root, take_log};
 use node_words::Name;
 use retain::{SameAt, SameRefused};
 use std::sync::Wait;
@@ -35,10 +30,7 @@ fn look_at(table: &NodeTable, pass: &mut Pass, at: u32, v: u32) -> Result<(), Sa
     if v > at {
         return Err(SameRefused::NoVersion { at, version: v });
     }
-    let mut turn = LogTurn::of(table, pass);
-    let found = turn.mark(v);
-    turn.rest();
-    match found {
+    match log_mark(table, pass, v) {
         Some(mark) => Err(SameRefused::Forgotten { at, mark }),
         None => Ok(()),
     }
@@ -54,8 +46,8 @@ fn is_same_root(table: &NodeTable, pass: &mut Pass, v: u32, w: u32) -> bool
     ensures equal { IsTrue result ↔ SameWorld (2 ^ pass.old.view.plan.side)
         (seen_has pass.old.view v) (seen_has pass.old.view w) }
 {
-    let first = root_of(table, pass, v);
-    let second = root_of(table, pass, w);
+    let first = log_root(table, pass, v);
+    let second = log_root(table, pass, w);
     pass.tell();
     is_one(first, second)
 }
@@ -131,18 +123,30 @@ pub fn same<R: Wait>(
     v: u32,
     w: u32,
 ) -> Result<SameAt, SameRefused>
-    requires of { BelongsTo table.now pass.old }
-    requires idle { HasNoTurn pass.old.view }
-    ensures of { BelongsTo table.now pass.new }
-    ensures idle { HasNoTurn pass.new.view }
+    requires free { StandsFree table.now pass.old }
+    ensures free { StandsFree table.now pass.new }
     ensures looks { LooksOn pass.old.view pass.new.view }
     ensures held { pass.new.view.held ≡ pass.old.view.held }
     ensures same { IfOk result (λ s. TellsSame v w s pass.new.view) }
     ensures refused { IfErr result (λ e. RefusesSame v w e pass.new.view) }
 {
-    take(rt, table, pass);
-    let at = length(table, pass);
+    take_log(rt, table, pass);
+    let at = log_length(table, pass);
     let answer = compare(table, pass, at, v, w);
-    leave(table, pass);
+    leave_log(table, pass);
     answer
+}
+
+/// How many records the log has. It may wait for the log's turn.
+pub fn head<R: Wait>(rt: &R, table: &NodeTable, pass: &mut Pass) -> u32
+    requires free { StandsFree table.now pass.old }
+    ensures free { StandsFree table.now pass.new }
+    ensures looks { LooksOn pass.old.view pass.new.view }
+    ensures held { pass.new.view.held ≡ pass.old.view.held }
+    ensures number { result ≡ number_seen pass.new.view }
+{
+    take_log(rt, table, pass);
+    let at = log_length(table, pass);
+    leave_log(table, pass);
+    at
 }

@@ -1,34 +1,29 @@
 // The log's turn, for as many looks and shares as a call needs before it appends.
-ghost use Rattle.std.specs.Prelude.{◌≡◌, ◌≤◌, ◌+◌, ◌^◌, Option, Some, None, IfOk, IfErr, IfSome};
+ghost use Rattle.std.specs.Prelude.{◌≡◌, ◌≤◌, ◌+◌, IfOk, IfSome};
 ghost use Rattle.std.specs.Borrow.{sem};
-ghost use Rattle.history_model.specs.Logs.{FitsWorld};
 ghost use Rattle.node_words.specs.shapes.Weights.{number_of_trees};
 ghost use Rattle.table_rule.specs.LogTelling.{IsShownRoot, IsShownUnmarked, number_seen, seen_has};
-ghost use Rattle.table_rule.specs.LogChanges.{HasOpenTarget};
-ghost use Rattle.node_table.specs.LogTurns.{HasLogTurn, HasNoTurn, LearnsLog, LooksForMark};
+ghost use Rattle.node_table.specs.LogTurns.{HasLogTurn, LearnsLog, LooksForMark};
 ghost use Rattle.node_table.specs.LogTurns.{log_left};
 ghost use Rattle.node_table.specs.Seen.{BelongsTo};
-ghost use Rattle.version_log.specs.Falling.{CommitsAlone, CommitsNext};
-ghost use Rattle.version_log.specs.Finishing.{RefusesFinish};
+ghost use Rattle.version_log.specs.Coming.{FinishCame, MayFinish};
+ghost use Rattle.version_log.specs.Falling.{CommitsAlone};
 ghost use Rattle.version_log.specs.Keeping.{OnlyKeeps};
 ghost use Rattle.version_log.specs.Lending.{LendsItsPass};
+ghost use Rattle.version_log.specs.Looking.{KeepsSure};
 ghost use Rattle.version_log.specs.Roots.{GetsRoot, HoldsRootOf, turns_for};
-ghost use Rattle.version_log.specs.Seeing.{LooksOn};
-ghost use Rattle.version_log.specs.Looking.{StaysAhead};
-ghost use Rattle.version_log.specs.Targets.{IsMadeNow, KnowsNext, StandsBehind, act_target};
-ghost use Rattle.undo.specs.Standings.{version_of};
+ghost use Rattle.version_log.specs.Seeing.{StandsFree};
+ghost use Rattle.version_log.specs.Targets.{KnowsNext, act_target};
 
-use crate::ahead::Ahead;
-use crate::committed::Committed;
+use crate::ahead::{Ahead, look_behind, version_of};
+use crate::answers::{Committed, SureRefused};
 use crate::finishing::finish;
-use crate::keeping::keep_version;
-use crate::refusals::SureRefused;
+use crate::roots::keep_version;
 use history_model::{Act, Mark};
-use node_table::{LogTurn, NodeTable, Pass};
+use node_table::{NodeTable, Pass, leave_log, log_length, log_mark, log_root};
 use node_words::{Name, Share, Steps};
 use std::sync::Wait;
 use std::sync::ledger::Ledger;
-use undo::{Standing, behind_redo, behind_undo};
 
 /// The log's turn, which its pass has while this lives: what is read stays as it is, and the next
 /// record is its own. It must be spent. Where `target` found that an undo or a redo leads is kept
@@ -43,95 +38,49 @@ impl<'a> Sure<'a> {
     /// How many records the log has.
     pub fn len(&mut self) -> u32
         requires { HasLogTurn self.old.table.now self.old.pass.now }
-        ensures pass { self.new.pass.ghost_name ≡ self.old.pass.ghost_name }
-        ensures table { self.new.table.now ≡ self.old.table.now }
-        ensures turn { HasLogTurn self.new.table.now self.new.pass.now }
+        ensures keeps { KeepsSure self.old self.new }
         ensures number { result ≡ number_seen self.old.pass.now.view }
         ensures few { result ≤ 65535 }
         ensures same { self.new.pass.now ≡ self.old.pass.now }
-        ensures ahead { StaysAhead self.old self.new }
     {
-        let mut turn = LogTurn::of(self.table, self.pass);
-        let at = turn.len();
-        turn.rest();
-        at
+        log_length(self.table, self.pass)
     }
 
     /// The mark of a version, where it has one.
     pub fn mark(&mut self, v: u32) -> Option<Mark>
         requires turn { HasLogTurn self.old.table.now self.old.pass.now }
         requires there { v ≤ number_seen self.old.pass.now.view }
-        ensures pass { self.new.pass.ghost_name ≡ self.old.pass.ghost_name }
-        ensures table { self.new.table.now ≡ self.old.table.now }
-        ensures turn { HasLogTurn self.new.table.now self.new.pass.now }
+        ensures keeps { KeepsSure self.old self.new }
         ensures looks { LooksForMark self.old.pass.now.view v result
             self.new.pass.now.view }
-        ensures ahead { StaysAhead self.old self.new }
     {
-        let mut turn = LogTurn::of(self.table, self.pass);
-        let mark = turn.mark(v);
-        turn.rest();
-        mark
+        log_mark(self.table, self.pass, v)
     }
 
     /// The root of a version that has no mark.
     pub fn root(&mut self, v: u32) -> Option<Name>
         requires turn { HasLogTurn self.old.table.now self.old.pass.now }
         requires unmarked { IsShownUnmarked self.old.pass.now.view v }
-        ensures pass { self.new.pass.ghost_name ≡ self.old.pass.ghost_name }
-        ensures table { self.new.table.now ≡ self.old.table.now }
-        ensures turn { HasLogTurn self.new.table.now self.new.pass.now }
+        ensures keeps { KeepsSure self.old self.new }
         ensures learns { LearnsLog self.old.pass.now.view self.new.pass.now.view }
         ensures root { IsShownRoot self.new.pass.now.view v result }
-        ensures ahead { StaysAhead self.old self.new }
     {
-        let mut turn = LogTurn::of(self.table, self.pass);
-        let root = turn.root(v);
-        turn.rest();
-        root
+        log_root(self.table, self.pass, v)
     }
 
     /// The version that an undo or a redo goes to, where there is one. An edit goes to none.
     pub fn target(&mut self, act: &Act) -> Option<u32>
         requires { HasLogTurn self.old.table.now self.old.pass.now }
-        ensures pass { self.new.pass.ghost_name ≡ self.old.pass.ghost_name }
-        ensures table { self.new.table.now ≡ self.old.table.now }
-        ensures turn { HasLogTurn self.new.table.now self.new.pass.now }
+        ensures keeps { KeepsSure self.old self.new }
         ensures target { result ≡ act_target self.old.pass.now.view.log.seen.records act.now }
         ensures there { IfSome result (λ to. to ≤ number_seen self.old.pass.now.view) }
         ensures learns { LearnsLog self.old.pass.now.view self.new.pass.now.view }
         ensures known { KnowsNext self.new.pass.now.view.log.seen.records act.now
             self.new.ahead }
-        ensures ahead { StaysAhead self.old self.new }
     {
-        let behind = self.look_behind(act);
+        let behind = look_behind(self.table, self.pass, act);
         self.ahead = self.ahead.keep_for(act, behind);
-        match behind {
-            Some(standing) => Some(standing.now),
-            None => None,
-        }
-    }
-
-    // Where the history would stand behind an undo or a redo, where that goes anywhere. An edit
-    // goes nowhere.
-    pub(crate) fn look_behind(&mut self, act: &Act) -> Option<Standing>
-        requires { HasLogTurn self.old.table.now self.old.pass.now }
-        ensures pass { self.new.pass.ghost_name ≡ self.old.pass.ghost_name }
-        ensures table { self.new.table.now ≡ self.old.table.now }
-        ensures turn { HasLogTurn self.new.table.now self.new.pass.now }
-        ensures target { version_of result
-            ≡ act_target self.old.pass.now.view.log.seen.records act.now }
-        ensures behind { IfSome result
-            (StandsBehind self.old.pass.now.view.log.seen.records act.now) }
-        ensures learns { LearnsLog self.old.pass.now.view self.new.pass.now.view }
-        ensures ahead { self.new.ahead ≡ self.old.ahead }
-    {
-        self.pass.tell();
-        match act {
-            Act::Undo => behind_undo(self),
-            Act::Redo => behind_redo(self),
-            _ => None,
-        }
+        version_of(behind)
     }
 
     /// A share of the root of a version that has no mark, by one turn of its bucket. `None` where
@@ -145,16 +94,13 @@ impl<'a> Sure<'a> {
         requires turn { HasLogTurn self.old.table.now self.old.pass.now }
         requires unmarked { IsShownUnmarked self.old.pass.now.view v }
         requires room { number_of_trees self.old.pass.now.view.held ≤ 4095 }
-        ensures pass { self.new.pass.ghost_name ≡ self.old.pass.ghost_name }
-        ensures table { self.new.table.now ≡ self.old.table.now }
-        ensures turn { HasLogTurn self.new.table.now self.new.pass.now }
+        ensures keeps { KeepsSure self.old self.new }
         ensures only { OnlyKeeps self.old.pass.now.view self.new.pass.now.view }
         ensures root { HoldsRootOf self.new.pass.now.view result
             (seen_has self.old.pass.now.view v) }
         ensures gains { GetsRoot self.old.pass.now.view.held result
             self.new.pass.now.view.held }
         ensures steps { steps.new ≡ steps.old + turns_for result }
-        ensures ahead { StaysAhead self.old self.new }
     {
         keep_version(rt, self.table, self.pass, v, steps)
     }
@@ -179,24 +125,12 @@ impl<'a> Sure<'a> {
     ) -> Result<Committed, SureRefused>
         requires turn { HasLogTurn self.table.now self.pass.now }
         requires room { number_of_trees self.pass.now.view.held ≤ 4095 }
-        requires fits { FitsWorld (2 ^ self.table.now.plan.side) self.pass.now.view.models
-            act.now }
-        requires target { HasOpenTarget self.pass.now.view act.now }
-        requires known { KnowsNext self.pass.now.view.log.seen.records act.now self.ahead }
-        requires made { IsMadeNow self.pass.now.view act.now root }
-        ensures of { BelongsTo self.entry.table.now self.exit.1.0.now }
-        ensures idle { HasNoTurn self.exit.1.0.now.view }
-        ensures commits { IfOk result (λ c. CommitsNext self.entry.pass.now.view keep line act.now
-            root c self.exit.1.0.now.view) }
+        requires may { MayFinish self.table.now self.pass.now.view self.ahead act.now root }
+        ensures free { StandsFree self.entry.table.now self.exit.1.0.now }
+        ensures came { FinishCame keep line act.now root result self.entry.pass.now.view
+            self.exit.1.0.now.view }
         ensures alone { IfOk result (λ c. keep ≡ 0 → CommitsAlone self.entry.pass.now.view line
             act.now root c self.exit.1.0.now.view) }
-        ensures refused { IfErr result (λ e. RefusesFinish root e self.exit.1.0.now.view) }
-        ensures left { IfErr result
-            (λ e. self.exit.1.0.now.view ≡ log_left self.entry.pass.now.view) }
-        ensures looks { IfErr result
-            (λ e. LooksOn self.entry.pass.now.view self.exit.1.0.now.view) }
-        ensures kept { IfErr result
-            (λ e. self.exit.1.0.now.view.held ≡ self.entry.pass.now.view.held) }
     {
         let Sure { table, pass, ahead } = self;
         finish(table, pass, ahead, line, act, root, keep)
@@ -213,16 +147,6 @@ impl<'a> Sure<'a> {
             pass,
             ahead: _,
         } = self;
-        leave(table, pass);
+        leave_log(table, pass);
     }
-}
-
-/// The pass gives the log's turn back, and nothing else changes.
-pub fn leave(table: &NodeTable, pass: &mut Pass)
-    requires { HasLogTurn table.now pass.old }
-    ensures of { BelongsTo table.now pass.new }
-    ensures view { pass.new.view ≡ log_left pass.old.view }
-{
-    let turn = LogTurn::of(table, pass);
-    turn.leave();
 }

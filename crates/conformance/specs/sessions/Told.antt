@@ -92,13 +92,14 @@ ActTold of line act old new (acts.NothingToUndo at) = ActNowhere of act Undo old
 ActTold of line act old new (acts.NothingToRedo at) = ActNowhere of act Redo old new at
 ActTold of line act old new (acts.Forgotten at mark) = ActForgotten of act old new at mark
 
--- it began at this length, and the history has more records
+-- it began at this length, at which it pinned the newest version, and the history has more records
 pub record ActStale (of : SessionOf) (act : Act) (old new : SessionSeen) (at base : ℕ) : Type 0
   where
     pub at_is : IsSeenLength new at
     pub nothing : AcceptsNothing old new
     pub notes : NotesFor of.plan of.models act old new
     pub low : length old.log.records ≤ base
+    pub pinned : Contains new.found (record { version = base; at = base })
     pub over : base < length new.log.records
     pub room : length new.log.records < 65535
 

@@ -20,4 +20,4 @@ returns-in-Ok g c =
 
 pub returns-in-Err : goal.returns-in-Err
 returns-in-Err g c =
-    kept_spare _ _ _ c.requires c.forget.ensures.of c.forget.ensures.idle c.in-Err.ensures.kept
+    kept_spare _ _ _ c.requires c.forget.ensures.free.of c.forget.ensures.free.idle c.in-Err.ensures.kept

@@ -19,4 +19,4 @@ returns-in-Ok g c =
 
 pub returns-in-Err : goal.returns-in-Err
 returns-in-Err g c =
-    kept_spare _ _ _ c.requires c.pin.ensures.of c.pin.ensures.idle c.in-Err.ensures.kept
+    kept_spare _ _ _ c.requires c.pin.ensures.free.of c.pin.ensures.free.idle c.in-Err.ensures.kept

@@ -1,31 +1,37 @@
-use Rattle.std.proofs.Common.{refl, ap, ◌∙◌, arith}
+use Rattle.std.proofs.Common.{rules, refl, ap, ◌∙◌, arith}
 use Rattle.tests_versions.specs.Uniform.{uniform_act}
 use Rattle.tests_versions.proofs.HoldingLaws.{back_few, fallen_none, fell_few, fell_named, fell_nothing, gone_whole, made_over}
 use Rattle.tests_versions.proofs.edits.commit_uniform.Goals as goal
 
-pub commit-requires-clause-made : goal.commit-requires-clause-made
-commit-requires-clause-made g c =
-    made_over _ _ _ c.requires.holds _ _
-    (c.act_behind-act.ensures ∙ ap uniform_act c.name_of.ensures)
+pub commit-requires-clause-may : goal.commit-requires-clause-may
+commit-requires-clause-may g c =
+    record {
+      pinned = search rules;
+      head = search rules;
+      edit = search rules;
+      fits = search rules;
+      made = made_over _ _ _ c.requires.holds _ _
+          (c.act_behind-act.ensures ∙ ap uniform_act c.name_of.ensures);
+    }
 
 pub commit-requires-clause-room : goal.commit-requires-clause-room
 commit-requires-clause-room g c = let few = back_few _ _ _ c.requires.holds in omega arith
 
 pub fallen_back-kept-requires-clause-held : goal.fallen_back-kept-requires-clause-held
 fallen_back-kept-requires-clause-held g c =
-    let made = c.in-Ok.ensures.commits in
+    let made = c.in-Ok.ensures.came.commits in
     fell_named _ _ _ _ _ _ _ made
     (gone_whole _ _ _ c.requires.holds _ _ _ _ _ refl made.appends)
 
 pub fallen_back-kept-requires-clause-room : goal.fallen_back-kept-requires-clause-room
 fallen_back-kept-requires-clause-room g c =
-    let made = c.in-Ok.ensures.commits in
+    let made = c.in-Ok.ensures.came.commits in
     fell_few _ _ _ _ _ _ _ made
     (gone_whole _ _ _ c.requires.holds _ _ _ _ _ refl made.appends)
 
 pub returns-in-Ok : goal.returns-in-Ok
 returns-in-Ok g c =
-    let made = c.in-Ok.ensures.commits in
+    let made = c.in-Ok.ensures.came.commits in
     fallen_none _ _ _ c.requires.holds _ c.fallen_back-kept.ensures.of
     c.fallen_back-kept.ensures.idle
     (fell_nothing _ _ _ _ _ _ _ made

@@ -4,8 +4,8 @@ use Rattle.node_table.specs.LogTurns.{log_left}
 use Rattle.version_log.proofs.AppendLaws.{MayGoOn, append_meets, appends, appends_fewer, appends_number, may_append, next_goes_on}
 use Rattle.version_log.proofs.finishing.append_next.Goals as goal
 
-pub append_words-requires-clause-may : goal.append_words-requires-clause-may
-append_words-requires-clause-may c =
+pub log_append_on-requires-clause-may : goal.log_append_on-requires-clause-may
+log_append_on-requires-clause-may c =
     let r = c.requires in
     let m : MayGoOn c.args.pass.now.view c.stands_next-now.new.pass.view c.args.table.now.plan
     c.number-number.result c.args.line c.args.act.now c.args.root c.record_words-words.result =
@@ -13,7 +13,7 @@ append_words-requires-clause-may c =
     c.number-number.result c.args.line c.args.at c.args.act.now c.args.root
     c.record_words-words.result c.stands_next-now.result.now c.stands_next-now.result.last
     r.turn.sees.turn c.stands_next-now.ensures.learns refl r.at r.room r.turn.of.plan
-    c.number-number.ensures r.fits r.target c.tell_numbers.ensures c.ranges.line.fits r.made
+    c.number-number.ensures r.may.fits r.may.target c.tell_numbers.ensures c.ranges.line.fits r.may.made
     c.stands_next-now.ensures.stands.next c.record_words-words.ensures
     in
     may_append _ _ _ _ _ _ _ _ m
@@ -27,11 +27,11 @@ returns-clause-appends c =
     c.number-number.result c.args.line c.args.at c.args.act.now c.args.root
     c.record_words-words.result c.stands_next-now.result.now c.stands_next-now.result.last
     r.turn.sees.turn c.stands_next-now.ensures.learns refl r.at r.room r.turn.of.plan
-    c.number-number.ensures r.fits r.target c.tell_numbers.ensures c.ranges.line.fits r.made
+    c.number-number.ensures r.may.fits r.may.target c.tell_numbers.ensures c.ranges.line.fits r.may.made
     c.stands_next-now.ensures.stands.next c.record_words-words.ensures
     in
-    appends _ _ _ _ _ _ _ _ m c.tell.ensures (log_left c.append_words.new.pass.view)
-    c.append_words.result c.append_words.ensures.number c.append_words.ensures.appended
+    appends _ _ _ _ _ _ _ _ m c.tell.ensures (log_left c.log_append_on.new.pass.view)
+    c.log_append_on.result c.log_append_on.ensures.number c.log_append_on.ensures.appended
 
 pub returns-clause-number : goal.returns-clause-number
 returns-clause-number c =
@@ -42,14 +42,14 @@ returns-clause-number c =
     c.number-number.result c.args.line c.args.at c.args.act.now c.args.root
     c.record_words-words.result c.stands_next-now.result.now c.stands_next-now.result.last
     r.turn.sees.turn c.stands_next-now.ensures.learns refl r.at r.room r.turn.of.plan
-    c.number-number.ensures r.fits r.target c.tell_numbers.ensures c.ranges.line.fits r.made
+    c.number-number.ensures r.may.fits r.may.target c.tell_numbers.ensures c.ranges.line.fits r.may.made
     c.stands_next-now.ensures.stands.next c.record_words-words.ensures
     in
-    let w : SeatView = log_left c.append_words.new.pass.view in
+    let w : SeatView = log_left c.log_append_on.new.pass.view in
     appends_number c.args.pass.now.view w c.args.line c.args.act.now c.args.root
-    c.append_words.result
-    (appends _ _ _ _ _ _ _ _ m c.tell.ensures w c.append_words.result
-    c.append_words.ensures.number c.append_words.ensures.appended)
+    c.log_append_on.result
+    (appends _ _ _ _ _ _ _ _ m c.tell.ensures w c.log_append_on.result
+    c.log_append_on.ensures.number c.log_append_on.ensures.appended)
 
 pub returns-clause-fewer : goal.returns-clause-fewer
 returns-clause-fewer c =
@@ -60,14 +60,14 @@ returns-clause-fewer c =
     c.number-number.result c.args.line c.args.at c.args.act.now c.args.root
     c.record_words-words.result c.stands_next-now.result.now c.stands_next-now.result.last
     r.turn.sees.turn c.stands_next-now.ensures.learns refl r.at r.room r.turn.of.plan
-    c.number-number.ensures r.fits r.target c.tell_numbers.ensures c.ranges.line.fits r.made
+    c.number-number.ensures r.may.fits r.may.target c.tell_numbers.ensures c.ranges.line.fits r.may.made
     c.stands_next-now.ensures.stands.next c.record_words-words.ensures
     in
-    let w : SeatView = log_left c.append_words.new.pass.view in
+    let w : SeatView = log_left c.log_append_on.new.pass.view in
     appends_fewer c.args.pass.now.view w c.args.line c.args.act.now c.args.root
-    c.append_words.result r.made
-    (appends _ _ _ _ _ _ _ _ m c.tell.ensures w c.append_words.result
-    c.append_words.ensures.number c.append_words.ensures.appended)
+    c.log_append_on.result r.may.made
+    (appends _ _ _ _ _ _ _ _ m c.tell.ensures w c.log_append_on.result
+    c.log_append_on.ensures.number c.log_append_on.ensures.appended)
 
 pub returns-clause-met_nobody : goal.returns-clause-met_nobody
 returns-clause-met_nobody c =
@@ -78,9 +78,9 @@ returns-clause-met_nobody c =
     c.number-number.result c.args.line c.args.at c.args.act.now c.args.root
     c.record_words-words.result c.stands_next-now.result.now c.stands_next-now.result.last
     r.turn.sees.turn c.stands_next-now.ensures.learns refl r.at r.room r.turn.of.plan
-    c.number-number.ensures r.fits r.target c.tell_numbers.ensures c.ranges.line.fits r.made
+    c.number-number.ensures r.may.fits r.may.target c.tell_numbers.ensures c.ranges.line.fits r.may.made
     c.stands_next-now.ensures.stands.next c.record_words-words.ensures
     in
-    append_meets _ _ _ _ _ _ _ _ m (log_left c.append_words.new.pass.view)
-    c.append_words.ensures.appended
+    append_meets _ _ _ _ _ _ _ _ m (log_left c.log_append_on.new.pass.view)
+    c.log_append_on.ensures.appended
     ∙ ap (λ (x : SeatView). x.log.busy) c.stands_next-now.ensures.learns.is

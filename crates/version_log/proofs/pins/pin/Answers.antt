@@ -2,47 +2,45 @@ use Rattle.std.proofs.Common.{rules, ap}
 use Rattle.table_rule.specs.Views.{SeatView}
 use Rattle.version_log.specs.Seeing.{LooksOn}
 use Rattle.node_table.specs.Seen.{PassSeen}
-use Rattle.version_log.proofs.LookLaws.{learns_same, begun_looks, left_on, looks_on, mark_looks, open_looks, rooted_looks}
+use Rattle.version_log.proofs.LookLaws.{learns_same, begun_looks, keeps_looks, left_on, looks_on, mark_looks, open_looks}
 use Rattle.version_log.proofs.pins.pin.Goals as goal
 
 pub returns-in-Some-clause-looks : goal.returns-in-Some-clause-looks
 returns-in-Some-clause-looks g c =
     let v : SeatView = c.args.pass.now.view in
-    let w : SeatView = c.len-at.new.self.pass.now.view in
-    let m : SeatView = c.mark.new.self.pass.now.view in
+    let w : SeatView = c.log_length-at.new.pass.view in
+    let m : SeatView = c.log_mark.new.pass.view in
     let first : LooksOn v w =
-    begun_looks v _ w c.log_turn-turn.ensures.view
-    (learns_same _ _ (ap (λ (s : PassSeen). s.view) c.len-at.ensures.same.1))
+    begun_looks v _ w c.take_log.ensures.takes
+    (learns_same _ _ (ap (λ (s : PassSeen). s.view) c.log_length-at.ensures.same))
     in
     let next : LooksOn w m =
-    mark_looks w c.version_asked-version.result c.in-Some.mark m c.in-Some.ensures.mark
+    mark_looks w c.version_asked-version.result c.in-Some.mark m c.in-Some.ensures.looks
     in
     left_on v m _ (looks_on v w m first next) (search rules)
 
 pub returns-clause-looks : goal.returns-clause-looks
 returns-clause-looks g c =
     let v : SeatView = c.args.pass.now.view in
-    let w : SeatView = c.len-at.new.self.pass.now.view in
-    let m : SeatView = c.mark.new.self.pass.now.view in
-    let r : SeatView = c.root-root.new.self.pass.now.view in
-    let k : SeatView = c.keep_root-root.new.pass.view in
+    let w : SeatView = c.log_length-at.new.pass.view in
+    let m : SeatView = c.log_mark.new.pass.view in
+    let k : SeatView = c.keep_version-root.new.pass.view in
     let first : LooksOn v w =
-    begun_looks v _ w c.log_turn-turn.ensures.view
-    (learns_same _ _ (ap (λ (s : PassSeen). s.view) c.len-at.ensures.same.1))
+    begun_looks v _ w c.take_log.ensures.takes
+    (learns_same _ _ (ap (λ (s : PassSeen). s.view) c.log_length-at.ensures.same))
     in
     let next : LooksOn w m =
-    open_looks w c.version_asked-version.result m c.in_default.ensures.mark
+    open_looks w c.version_asked-version.result m c.in_default.ensures.looks
     in
-    let last : LooksOn m k =
-    rooted_looks m r _ k c.root-root.ensures.learns (search rules) c.keep_root-root.ensures.only
-    in
-    left_on v k _ (looks_on v m k (looks_on v w m first next) last) (search rules)
+    left_on v k _
+    (looks_on v m k (looks_on v w m first next) (keeps_looks m k c.keep_version-root.ensures.only))
+    (search rules)
 
 pub returns-then-version-at-clause-looks : goal.returns-then-version-at-clause-looks
 returns-then-version-at-clause-looks g c =
-    let w : SeatView = c.len-at.new.self.pass.now.view in
+    let w : SeatView = c.log_length-at.new.pass.view in
     let first : LooksOn c.args.pass.now.view w =
-    begun_looks c.args.pass.now.view _ w c.log_turn-turn.ensures.view
-    (learns_same _ _ (ap (λ (s : PassSeen). s.view) c.len-at.ensures.same.1))
+    begun_looks c.args.pass.now.view _ w c.take_log.ensures.takes
+    (learns_same _ _ (ap (λ (s : PassSeen). s.view) c.log_length-at.ensures.same))
     in
     left_on c.args.pass.now.view w _ first (search rules)

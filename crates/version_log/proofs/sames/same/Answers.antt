@@ -8,12 +8,12 @@ use Rattle.version_log.proofs.sames.same.Goals as goal
 pub returns-clause-looks : goal.returns-clause-looks
 returns-clause-looks g c =
     let v : SeatView = c.args.pass.now.view in
-    let w : SeatView = c.length-at.new.pass.view in
+    let w : SeatView = c.log_length-at.new.pass.view in
     let x : SeatView = c.compare-answer.new.pass.view in
-    let z : SeatView = c.leave.new.pass.view in
+    let z : SeatView = c.leave_log.new.pass.view in
     let first : LooksOn v w =
-    begun_looks v c.take.new.pass.view w c.take.ensures.takes
-    (learns_same _ _ (ap (λ (s : PassSeen). s.view) c.length-at.ensures.same))
+    begun_looks v c.take_log.new.pass.view w c.take_log.ensures.takes
+    (learns_same _ _ (ap (λ (s : PassSeen). s.view) c.log_length-at.ensures.same))
     in
     looks_on v x z (looks_on v w x first c.compare-answer.ensures.looks)
-    (left_looks x z c.leave.ensures.view)
+    (left_looks x z c.leave_log.ensures.view)

@@ -1,37 +1,47 @@
 use Rattle.std.proofs.Common.{◌≡◌, true, rules}
-use Rattle.version_log.proofs.AppendLaws.{commits_made, try_refused}
-use Rattle.version_log.proofs.FallLaws.{commits_alone, falls_before}
+use Rattle.version_log.proofs.FallLaws.{at_once, commits_alone, may_here, taken_few, try_came, try_refuses}
 use Rattle.version_log.proofs.tries.try_commit.Goals as goal
 
-pub commit_here-requires-clause-made : goal.commit_here-requires-clause-made
-commit_here-requires-clause-made c = λ here.
-    (let came : c.try_take.result ≡ true = search rules in
-    commits_made c.args.pass.now.view c.try_take.new.pass.view c.args.base.now.moment
-    c.args.act.now c.args.root (c.try_take.ensures.taken came).takes c.requires.base.moment
-    c.requires.made here)
+pub commit_here-requires-clause-turn : goal.commit_here-requires-clause-turn
+commit_here-requires-clause-turn c =
+    let came : c.try_take_log.result ≡ true = search rules in
+    (at_once _ _ _ c.try_take_log.result came c.try_take_log.ensures).turn
 
-pub returns-in-Ok-clause-commits : goal.returns-in-Ok-clause-commits
-returns-in-Ok-clause-commits c =
-    let came : c.try_take.result ≡ true = search rules in
-    falls_before c.args.pass.now.view c.try_take.new.pass.view c.commit_here.new.pass.view
-    c.args.base.now.moment c.args.keep c.args.line c.args.act.now c.args.root c.in-Ok.committed
-    (c.try_take.ensures.taken came).takes c.requires.base.moment c.in-Ok.ensures.number
-    c.in-Ok.ensures.commits
+pub commit_here-requires-clause-room : goal.commit_here-requires-clause-room
+commit_here-requires-clause-room c =
+    let came : c.try_take_log.result ≡ true = search rules in
+    taken_few _ _ (at_once _ _ _ c.try_take_log.result came c.try_take_log.ensures).takes
+    c.requires.room
+
+pub commit_here-requires-clause-may : goal.commit_here-requires-clause-may
+commit_here-requires-clause-may c =
+    let came : c.try_take_log.result ≡ true = search rules in
+    may_here c.args.table.now c.args.pass.now.view c.try_take_log.new.pass.view c.args.base.now
+    c.args.act.now c.args.root
+    (at_once _ _ _ c.try_take_log.result came c.try_take_log.ensures).takes c.requires.may
+
+pub returns-in-Ok-clause-came : goal.returns-in-Ok-clause-came
+returns-in-Ok-clause-came c =
+    let came : c.try_take_log.result ≡ true = search rules in
+    try_came c.args.table.now c.args.base.now c.args.keep c.args.line c.args.act.now c.args.root
+    c.in-Ok.committed c.args.pass.now.view c.try_take_log.new.pass c.commit_here.new.pass.view
+    (at_once _ _ _ c.try_take_log.result came c.try_take_log.ensures)
+    c.requires.may.pinned.moment c.in-Ok.ensures.came c.commit_here.ensures.met_nobody
 
 pub returns-in-Ok-clause-alone : goal.returns-in-Ok-clause-alone
 returns-in-Ok-clause-alone c =
-    let came : c.try_take.result ≡ true = search rules in
+    let came : c.try_take_log.result ≡ true = search rules in
     commits_alone c.args.pass.now.view c.commit_here.new.pass.view c.args.keep c.args.line
     c.args.act.now c.args.root c.in-Ok.committed
-    (falls_before c.args.pass.now.view c.try_take.new.pass.view c.commit_here.new.pass.view
-    c.args.base.now.moment c.args.keep c.args.line c.args.act.now c.args.root c.in-Ok.committed
-    (c.try_take.ensures.taken came).takes c.requires.base.moment c.in-Ok.ensures.number
-    c.in-Ok.ensures.commits)
+    (try_came c.args.table.now c.args.base.now c.args.keep c.args.line c.args.act.now c.args.root
+    c.in-Ok.committed c.args.pass.now.view c.try_take_log.new.pass c.commit_here.new.pass.view
+    (at_once _ _ _ c.try_take_log.result came c.try_take_log.ensures)
+    c.requires.may.pinned.moment c.in-Ok.ensures.came c.commit_here.ensures.met_nobody).commits
 
-pub returns-in-Err-clause-refused : goal.returns-in-Err-clause-refused
-returns-in-Err-clause-refused c =
-    let came : c.try_take.result ≡ true = search rules in
-    rw c.tried.ensures (try_refused c.args.base.now c.args.root c.in-Err.refused
-    c.args.table.now c.args.pass.now.view c.try_take.new.pass c.commit_here.new.pass.view
-    (c.try_take.ensures.taken came) c.commit_here.ensures.met_nobody c.in-Err.ensures.looks
-    c.in-Err.ensures.refused)
+pub returns-in-Err-clause-came : goal.returns-in-Err-clause-came
+returns-in-Err-clause-came c =
+    let came : c.try_take_log.result ≡ true = search rules in
+    rw c.tried.ensures (try_refuses c.args.table.now c.args.base.now c.args.root c.in-Err.refused
+    c.args.pass.now.view c.try_take_log.new.pass c.commit_here.new.pass.view
+    (at_once _ _ _ c.try_take_log.result came c.try_take_log.ensures)
+    c.commit_here.ensures.met_nobody c.in-Err.ensures.came)

@@ -1,5 +1,5 @@
 use Rattle.std.proofs.Common.{rules, ◌∙◌}
-use Rattle.version_log.specs.declared.refusals.CommitRefused.TheVariants.{LogFull, Stale}
+use Rattle.version_log.specs.declared.answers.CommitRefused.TheVariants.{LogFull, Stale}
 use Rattle.session.proofs.AttemptLaws.{done_comes, done_room, full_comes, late_comes, late_room, made_room, refused_as, stale_comes}
 use Rattle.session.proofs.CommitLaws.{head_root}
 use Rattle.session.proofs.KeepLaws.{commits_as, fallen_back}

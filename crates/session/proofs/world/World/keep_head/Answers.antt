@@ -3,28 +3,28 @@ use Rattle.session.proofs.TurnLaws.{has_turn, head_gets, head_holds, head_log, h
 use Rattle.session.specs.Seen.{WorldSeen}
 use Rattle.session.proofs.world.World.keep_head.Goals as goal
 
-pub length-at-requires : goal.length-at-requires
-length-at-requires g c =
+pub log_length-at-requires : goal.log_length-at-requires
+log_length-at-requires g c =
     has_turn c.args.self.now.table _ c.args.s.now _
     (ap (λ (w : WorldSeen). w.table) c.self.view_is) refl c.requires.turn
 
 pub keep_version-requires-clause-unmarked : goal.keep_version-requires-clause-unmarked
 keep_version-requires-clause-unmarked g c =
-    head_open c.args.s.now c.length-at.new.pass c.mark-mark.new.pass
-    c.length-at.result c.mark-mark.result c.length-at.ensures.same c.length-at.ensures.number
-    c.mark-mark.ensures.looks
+    head_open c.args.s.now c.log_length-at.new.pass c.log_mark-mark.new.pass
+    c.log_length-at.result c.log_mark-mark.result c.log_length-at.ensures.same c.log_length-at.ensures.number
+    c.log_mark-mark.ensures.looks
 
 pub keep_version-requires-clause-room : goal.keep_version-requires-clause-room
 keep_version-requires-clause-room g c =
-    head_room c.args.s.now c.length-at.new.pass c.mark-mark.new.pass
-    c.length-at.result c.mark-mark.result c.length-at.ensures.same c.length-at.ensures.number
-    c.mark-mark.ensures.looks c.requires.room
+    head_room c.args.s.now c.log_length-at.new.pass c.log_mark-mark.new.pass
+    c.log_length-at.result c.log_mark-mark.result c.log_length-at.ensures.same c.log_length-at.ensures.number
+    c.log_mark-mark.ensures.looks c.requires.room
 
 pub returns-clause-turn : goal.returns-clause-turn
 returns-clause-turn g c =
-    head_log c.args.s.now c.length-at.new.pass c.mark-mark.new.pass
-    c.length-at.result c.mark-mark.result c.length-at.ensures.same c.length-at.ensures.number
-    c.mark-mark.ensures.looks c.keep_version.new.pass c.keep_version.ensures.only c.args.self.now.table _ (ap (λ (w : WorldSeen). w.table) c.self.view_is)
+    head_log c.args.s.now c.log_length-at.new.pass c.log_mark-mark.new.pass
+    c.log_length-at.result c.log_mark-mark.result c.log_length-at.ensures.same c.log_length-at.ensures.number
+    c.log_mark-mark.ensures.looks c.keep_version.new.pass c.keep_version.ensures.only c.args.self.now.table _ (ap (λ (w : WorldSeen). w.table) c.self.view_is)
     c.requires.turn c.keep_version.ensures.turn
 
 pub returns-clause-same : goal.returns-clause-same
@@ -32,24 +32,24 @@ returns-clause-same g c =
     log_same c.args.self.now.table _ c.args.s.now c.keep_version.new.pass
     (ap (λ (w : WorldSeen). w.table) c.self.view_is)
     c.requires.turn c.keep_version.ensures.turn.of
-    (head_looks c.args.s.now c.length-at.new.pass c.mark-mark.new.pass
-    c.length-at.result c.mark-mark.result c.length-at.ensures.same c.length-at.ensures.number
-    c.mark-mark.ensures.looks c.keep_version.new.pass c.keep_version.ensures.only).session
+    (head_looks c.args.s.now c.log_length-at.new.pass c.log_mark-mark.new.pass
+    c.log_length-at.result c.log_mark-mark.result c.log_length-at.ensures.same c.log_length-at.ensures.number
+    c.log_mark-mark.ensures.looks c.keep_version.new.pass c.keep_version.ensures.only).session
 
 pub returns-clause-looks : goal.returns-clause-looks
 returns-clause-looks g c =
-    head_looks c.args.s.now c.length-at.new.pass c.mark-mark.new.pass
-    c.length-at.result c.mark-mark.result c.length-at.ensures.same c.length-at.ensures.number
-    c.mark-mark.ensures.looks c.keep_version.new.pass c.keep_version.ensures.only
+    head_looks c.args.s.now c.log_length-at.new.pass c.log_mark-mark.new.pass
+    c.log_length-at.result c.log_mark-mark.result c.log_length-at.ensures.same c.log_length-at.ensures.number
+    c.log_mark-mark.ensures.looks c.keep_version.new.pass c.keep_version.ensures.only
 
 pub returns-clause-root : goal.returns-clause-root
 returns-clause-root g c =
-    head_holds c.args.s.now c.length-at.new.pass c.mark-mark.new.pass
-    c.length-at.result c.mark-mark.result c.length-at.ensures.same c.length-at.ensures.number
-    c.mark-mark.ensures.looks c.keep_version.new.pass c.keep_version.ensures.only _ c.keep_version.ensures.root
+    head_holds c.args.s.now c.log_length-at.new.pass c.log_mark-mark.new.pass
+    c.log_length-at.result c.log_mark-mark.result c.log_length-at.ensures.same c.log_length-at.ensures.number
+    c.log_mark-mark.ensures.looks c.keep_version.new.pass c.keep_version.ensures.only _ c.keep_version.ensures.root
 
 pub returns-clause-gains : goal.returns-clause-gains
 returns-clause-gains g c =
-    head_gets c.args.s.now c.length-at.new.pass c.mark-mark.new.pass
-    c.length-at.result c.mark-mark.result c.length-at.ensures.same c.length-at.ensures.number
-    c.mark-mark.ensures.looks c.keep_version.new.pass c.keep_version.ensures.only _ c.keep_version.ensures.gains
+    head_gets c.args.s.now c.log_length-at.new.pass c.log_mark-mark.new.pass
+    c.log_length-at.result c.log_mark-mark.result c.log_length-at.ensures.same c.log_length-at.ensures.number
+    c.log_mark-mark.ensures.looks c.keep_version.new.pass c.keep_version.ensures.only _ c.keep_version.ensures.gains

@@ -3,33 +3,33 @@ use Rattle.session.proofs.TurnLaws.{has_turn, leave_at, leave_held, leave_rests,
 use Rattle.session.specs.Seen.{WorldSeen}
 use Rattle.session.proofs.world.World.leave.Goals as goal
 
-pub length-at-requires : goal.length-at-requires
-length-at-requires c =
+pub log_length-at-requires : goal.log_length-at-requires
+log_length-at-requires c =
     has_turn c.args.self.now.table _ c.args.s.now _
     (ap (λ (w : WorldSeen). w.table) c.self.view_is) refl c.requires.turn
 
 pub returns-clause-rest : goal.returns-clause-rest
 returns-clause-rest c =
-    leave_rests c.args.self.now.table _ c.args.s.now c.length-at.new.pass c.leave.new.pass
-    (ap (λ (w : WorldSeen). w.table) c.self.view_is) c.length-at.ensures.same c.requires.turn c.leave.ensures.view c.leave.ensures.of
+    leave_rests c.args.self.now.table _ c.args.s.now c.log_length-at.new.pass c.leave_log.new.pass
+    (ap (λ (w : WorldSeen). w.table) c.self.view_is) c.log_length-at.ensures.same c.requires.turn c.leave_log.ensures.view c.leave_log.ensures.of
 
 pub returns-clause-same : goal.returns-clause-same
 returns-clause-same c =
-    leave_same c.args.self.now.table _ c.args.s.now c.length-at.new.pass c.leave.new.pass
-    (ap (λ (w : WorldSeen). w.table) c.self.view_is) c.length-at.ensures.same c.requires.turn c.leave.ensures.view c.leave.ensures.of
+    leave_same c.args.self.now.table _ c.args.s.now c.log_length-at.new.pass c.leave_log.new.pass
+    (ap (λ (w : WorldSeen). w.table) c.self.view_is) c.log_length-at.ensures.same c.requires.turn c.leave_log.ensures.view c.leave_log.ensures.of
 
 pub returns-clause-seen : goal.returns-clause-seen
 returns-clause-seen c =
-    leave_seen c.args.self.now.table c.args.self.now.table c.args.s.now c.length-at.new.pass
-    c.leave.new.pass refl c.length-at.ensures.same c.requires.turn c.leave.ensures.view
+    leave_seen c.args.self.now.table c.args.self.now.table c.args.s.now c.log_length-at.new.pass
+    c.leave_log.new.pass refl c.log_length-at.ensures.same c.requires.turn c.leave_log.ensures.view
 
 pub returns-clause-held : goal.returns-clause-held
 returns-clause-held c =
-    leave_held c.args.self.now.table c.args.self.now.table c.args.s.now c.length-at.new.pass
-    c.leave.new.pass refl c.length-at.ensures.same c.requires.turn c.leave.ensures.view
+    leave_held c.args.self.now.table c.args.self.now.table c.args.s.now c.log_length-at.new.pass
+    c.leave_log.new.pass refl c.log_length-at.ensures.same c.requires.turn c.leave_log.ensures.view
 
 pub returns-clause-at : goal.returns-clause-at
 returns-clause-at c =
-    leave_at c.args.self.now.table c.args.self.now.table c.args.s.now c.length-at.new.pass
-    c.leave.new.pass refl c.length-at.ensures.same c.requires.turn c.leave.ensures.view
-    c.length-at.result c.length-at.ensures.number
+    leave_at c.args.self.now.table c.args.self.now.table c.args.s.now c.log_length-at.new.pass
+    c.leave_log.new.pass refl c.log_length-at.ensures.same c.requires.turn c.leave_log.ensures.view
+    c.log_length-at.result c.log_length-at.ensures.number

@@ -7,18 +7,18 @@ use Rattle.session.proofs.world.World.take.Goals as goal
 
 pub returns-clause-turn : goal.returns-clause-turn
 returns-clause-turn g c =
-    log_came c.args.self.now.table _ c.args.s.now c.take.new.pass
+    log_came c.args.self.now.table _ c.args.s.now c.take_log.new.pass
     (ap (λ (w : WorldSeen). w.table) c.self.view_is) c.requires.rest
-    c.take.ensures.turn (takes_looks _ _ c.take.ensures.takes)
+    c.take_log.ensures.turn (takes_looks _ _ c.take_log.ensures.takes)
 
 pub returns-clause-same : goal.returns-clause-same
 returns-clause-same g c =
-    same_looked c.args.self.now.table _ c.args.s.now c.take.new.pass
+    same_looked c.args.self.now.table _ c.args.s.now c.take_log.new.pass
     (ap (λ (w : WorldSeen). w.table) c.self.view_is) c.requires.rest
-    c.take.ensures.turn.of (takes_looks _ _ c.take.ensures.takes)
+    c.take_log.ensures.turn.of (takes_looks _ _ c.take_log.ensures.takes)
 
 pub returns-clause-looks : goal.returns-clause-looks
-returns-clause-looks g c = takes_looks _ _ c.take.ensures.takes
+returns-clause-looks g c = takes_looks _ _ c.take_log.ensures.takes
 
 pub returns-clause-held : goal.returns-clause-held
-returns-clause-held g c = taken_held _ _ c.take.ensures.takes
+returns-clause-held g c = taken_held _ _ c.take_log.ensures.takes

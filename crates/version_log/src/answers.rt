@@ -1,5 +1,27 @@
-// Why no record was appended.
+// What pins, commits and forgets answer, and why no record was appended.
 use node_words::Share;
+
+/// A version that is pinned: the length of the log at that moment, and a share of the version's
+/// root, `None` where no cell is set. It must be spent.
+pub struct Pinned {
+    pub version: u32,
+    pub moment: u32,
+    pub root: Option<Share>,
+}
+
+/// Record `n` was appended. Where a version fell out that had no mark, the share of its root is
+/// handed over, `None` where no cell of it is set.
+pub struct Committed {
+    pub n: u32,
+    pub fallen: Option<Share>,
+}
+
+/// A version was forgotten at this length of the log. The share of its root is handed over, `None`
+/// where no cell is set.
+pub struct Forgot {
+    pub at: u32,
+    pub root: Option<Share>,
+}
 
 /// Why an edit isn't committed. The root comes back.
 pub enum CommitRefused {

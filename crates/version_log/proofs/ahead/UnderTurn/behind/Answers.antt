@@ -3,7 +3,7 @@ use Rattle.history_model.specs.declared.histories.Record.{Record}
 use Rattle.history_model.specs.Worlds.{is_edit}
 use Rattle.version_log.specs.Targets.{act_target}
 use Rattle.version_log.proofs.WordLaws.{looked_behind}
-use Rattle.version_log.proofs.sures.Sure.look_behind.Goals as goal
+use Rattle.version_log.proofs.ahead.UnderTurn.behind.Goals as goal
 
 pub returns-in-Undo-clause-behind : goal.returns-in-Undo-clause-behind
 returns-in-Undo-clause-behind c =

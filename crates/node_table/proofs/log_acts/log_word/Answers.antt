@@ -4,7 +4,7 @@ use Rattle.table_rule.specs.Views.{known_at}
 use Rattle.node_table.specs.LogTurns.{IsWordOf}
 use Rattle.node_table.specs.Seen.{PassSeen}
 use Rattle.node_table.proofs.LogReads.{one_word}
-use Rattle.node_table.proofs.log_acts.word_of.Goals as goal
+use Rattle.node_table.proofs.log_acts.log_word.Goals as goal
 
 pub returns-clause-word : goal.returns-clause-word
 returns-clause-word c =
