@@ -163,7 +163,7 @@ done_at (Some a) (Refused (Text Memory)) old new left gives ends is puts = absur
 -- status 1
 usage_at : (a : Option Request) (e : Ending) (old new : Outside) → EndsAs a e old.shelf new.shelf
     → status_of e ≡ 1 → Puts old.out.told new.out.told (ending_line e) → Unusable a old new
-usage_at None Usage old new ends is puts = record { cause = tt; unchanged = ends.1; line = puts }
+usage_at None Usage old new ends is puts = record { cause = ends.1; line = puts }
 usage_at None (Refused (Text Memory)) old new ends is puts = absurd (omega arith)
 usage_at None (Refused (Text (Vox fault))) old new ends is puts = absurd ends.0
 usage_at None (Refused (Text (Script at))) old new ends is puts = absurd ends.0
@@ -183,7 +183,7 @@ usage_at (Some a) (Refused (Input r)) old new ends is puts = absurd (not_input r
 usage_at (Some a) (Refused (Text (Vox fault))) old new ends is puts = absurd (omega arith)
 usage_at (Some a) (Refused (Text (Script at))) old new ends is puts = absurd (omega arith)
 usage_at (Some a) (Refused (Text Collides)) old new ends is puts =
-    record { cause = ends.0; unchanged = ends.1; line = puts }
+    record { cause = (ends.0, ends.1); line = puts }
 usage_at (Some a) (Refused (Text (NoScene fault))) old new ends is puts = absurd (omega arith)
 usage_at (Some a) (Refused (Text NoPlace)) old new ends is puts = absurd (omega arith)
 usage_at (Some a) (Refused (Text (Journal line))) old new ends is puts = absurd (omega arith)

@@ -1,7 +1,7 @@
 -- What each status says, by what the words ask for: what is outside before and after.
 use Rattle.std.specs.Prelude.{◌≡◌, ℕ, ◌⊎◌, ◌==◌, List, [], ◌∷◌, Bool, Option, Some, None, ⊤}
 use Rattle.std.specs.List.{list_any}
-use Rattle.vw_io.specs.Outside.{Files, Rose, ShelfState, Outside}
+use Rattle.vw_io.specs.Outside.{Files, Rose, ShelfState, KeepsFiles, Outside}
 use Rattle.vw_io.specs.Inputs.{StopsAt}
 use Rattle.vw_io.specs.declared.shelves.ReadRefused.{ReadRefused}
 use Rattle.vw_io.specs.declared.shelves.ReadRefused.TheVariants as reads
@@ -56,13 +56,13 @@ pub record CameToEnd (a : Option Request) (old new : Outside) : Type 0 where
 -- ---- status 1: the words are outside the grammar, or all inputs are accepted and a name of an
 -- output is taken
 
-abbrev pub IsUnusable : Option Request → Option Files → Type 0
-IsUnusable None files = ⊤
-IsUnusable (Some a) files = outcomes.TextsRefused texts.Collides a files
+abbrev pub IsUnusable : Option Request → ShelfState → ShelfState → Type 0
+IsUnusable None old new = new ≡ old
+IsUnusable (Some a) old new =
+    outcomes.TextsRefused texts.Collides a old.files × KeepsFiles old new
 
 pub record Unusable (a : Option Request) (old new : Outside) : Type 0 where
-  pub cause : IsUnusable a old.shelf.files
-  pub unchanged : new.shelf ≡ old.shelf
+  pub cause : IsUnusable a old.shelf new.shelf
   pub line : Puts old.out.told new.out.told usage_line
 
 -- ---- statuses 2, 3 and 9: the first input that was not taken is missing, could not be read, or is
@@ -97,7 +97,7 @@ RefusesText r (Some a) files = outcomes.TextsRefused r a files
 pub record VoxRefused (a : Option Request) (old new : Outside) : Type 0 where
   pub fault : VoxFault
   pub refuses : RefusesText (texts.Vox fault) a old.shelf.files
-  pub unchanged : new.shelf ≡ old.shelf
+  pub unchanged : KeepsFiles old.shelf new.shelf
   pub line : Puts old.out.told new.out.told (vox_line (kind_of fault) (position_of fault))
 
 -- ---- status 5: the VOX file is accepted, and this is the first fault of the first script that has
@@ -106,7 +106,7 @@ pub record VoxRefused (a : Option Request) (old new : Outside) : Type 0 where
 pub record ScriptRefused (a : Option Request) (old new : Outside) : Type 0 where
   pub at : NumberedFault
   pub refuses : RefusesText (texts.Script at) a old.shelf.files
-  pub unchanged : new.shelf ≡ old.shelf
+  pub unchanged : KeepsFiles old.shelf new.shelf
   pub line : Puts old.out.told new.out.told
       (script_line at.script at.fault.line (number_of_kind at.fault.kind))
 
@@ -115,7 +115,7 @@ pub record ScriptRefused (a : Option Request) (old new : Outside) : Type 0 where
 
 pub record NoPlaceThere (a : Option Request) (old new : Outside) : Type 0 where
   pub refuses : RefusesText texts.NoPlace a old.shelf.files
-  pub unchanged : new.shelf ≡ old.shelf
+  pub unchanged : KeepsFiles old.shelf new.shelf
   pub line : Puts old.out.told new.out.told no_place_line
 
 -- ---- status 11: the VOX file is accepted, and this is the first fault of its scene
@@ -123,7 +123,7 @@ pub record NoPlaceThere (a : Option Request) (old new : Outside) : Type 0 where
 pub record SceneRefused (a : Option Request) (old new : Outside) : Type 0 where
   pub fault : SceneFault
   pub refuses : RefusesText (texts.NoScene fault) a old.shelf.files
-  pub unchanged : new.shelf ≡ old.shelf
+  pub unchanged : KeepsFiles old.shelf new.shelf
   pub line : Puts old.out.told new.out.told
       (scene_line (scene_kind_of fault) (place_of_fault fault))
 
@@ -134,7 +134,7 @@ pub record SceneRefused (a : Option Request) (old new : Outside) : Type 0 where
 pub record JournalRefused (a : Option Request) (old new : Outside) : Type 0 where
   pub at : ℕ
   pub refuses : RefusesText (texts.Journal at) a old.shelf.files
-  pub unchanged : new.shelf ≡ old.shelf
+  pub unchanged : KeepsFiles old.shelf new.shelf
   pub line : Puts old.out.told new.out.told (journal_line at)
 
 -- ---- status 13: all texts are accepted, and what the command stamps or replays can need as many
@@ -143,7 +143,7 @@ pub record JournalRefused (a : Option Request) (old new : Outside) : Type 0 wher
 pub record StoreFilled (a : Option Request) (old new : Outside) : Type 0 where
   pub full : Full
   pub refuses : RefusesText (texts.StoreFull full) a old.shelf.files
-  pub unchanged : new.shelf ≡ old.shelf
+  pub unchanged : KeepsFiles old.shelf new.shelf
   pub line : Puts old.out.told new.out.told (full_line full.level full.bucket)
 
 -- ---- status 15: no script has a fault, and this is the first line of the first transcript that
@@ -152,7 +152,7 @@ pub record StoreFilled (a : Option Request) (old new : Outside) : Type 0 where
 pub record TranscriptRefused (a : Option Request) (old new : Outside) : Type 0 where
   pub at : TranscriptLine
   pub refuses : RefusesText (texts.Transcript at) a old.shelf.files
-  pub unchanged : new.shelf ≡ old.shelf
+  pub unchanged : KeepsFiles old.shelf new.shelf
   pub line : Puts old.out.told new.out.told (transcript_line at.script at.line)
 
 -- ---- status 14: this is the first place where a file of many versions breaks a rule
@@ -160,7 +160,7 @@ pub record TranscriptRefused (a : Option Request) (old new : Outside) : Type 0 w
 pub record DagRefused (a : Option Request) (old new : Outside) : Type 0 where
   pub place : ℕ
   pub refuses : RefusesText (texts.NoDag place) a old.shelf.files
-  pub unchanged : new.shelf ≡ old.shelf
+  pub unchanged : KeepsFiles old.shelf new.shelf
   pub line : Puts old.out.told new.out.told (dag_line place)
 
 -- where nothing is wrong the status is 0, or 7 or 8, and of a command with a store of its own it
