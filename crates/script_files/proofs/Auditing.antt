@@ -1,5 +1,5 @@
 -- What an audit answers, as an outcome of the whole command.
-use Rattle.std.proofs.Common.{◌≡◌, ℕ, ◌+◌, ◌<◌, List, [], ◌∷◌, ◌++◌, Bool, length, map, take, drop, get_or, Option, None, Ok, refl, sym, ap, subst, ◌∙◌, arith}
+use Rattle.std.proofs.Common.{◌≡◌, ℕ, ◌+◌, ◌<◌, ◌≤◌, List, [], ◌∷◌, ◌++◌, Bool, length, map, take, drop, get_or, Option, None, Ok, refl, sym, ap, subst, ◌∙◌, arith}
 use Rattle.std.specs.Prelude.{All, IsTrue, ◌↔◌}
 use Rattle.std.proofs.lemmas.List.{take_more, drop_more, map-append, length-map, length-take-le}
 use Rattle.std.proofs.lemmas.List.Elements.{All-nil, All-cons, All-append}
@@ -257,7 +257,7 @@ parted_refusal r m n texts rest file journal number parts says =
 pub audited : (asked : AuditAsked) (texts : List (List ℕ)) (answer : Bool) (old new : ShelfState)
     → AreTaken old.files (inputs_of (Audit asked)) texts
     → AnswersAudit asked.buckets asked.keep (file_in texts) (texts_audited asked texts) answer
-    → new.files ≡ old.files → new.faults ≡ old.faults
+    → new.files ≡ old.files → old.faults ≤ new.faults
     → Outcome (Ok (record { done = Answered answer; ended = None })) (Audit asked) old new
 audited asked texts answer old new taken answers files faults = record {
   outputs = [];
@@ -268,5 +268,5 @@ audited asked texts answer old new taken answers files faults = record {
   };
   whole = subst (λ (f : Option Files). AreWritten [] old.files f) (sym files)
       (unwritten old.files);
-  no_fault = faults;
+  never_falls = faults;
 }

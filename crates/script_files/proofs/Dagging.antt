@@ -1,6 +1,6 @@
 -- What the file of a journal's versions gives, as an outcome of the whole command.
-use Rattle.std.proofs.Common.{◌≡◌, ℕ, ◌+◌, ◌^◌, List, [], ◌∷◌, Ok, Err, None, refl, sym, ap, subst, ◌∙◌, inl, inr}
-use Rattle.vw_io.specs.Outside.{ShelfState}
+use Rattle.std.proofs.Common.{◌≡◌, ◌≤◌, ℕ, ◌+◌, ◌^◌, List, [], ◌∷◌, Option, Ok, Err, None, refl, sym, ap, subst, ◌∙◌, inl, inr, arith}
+use Rattle.vw_io.specs.Outside.{Files, ShelfState}
 use Rattle.vw_io.specs.Inputs.{AreTaken}
 use Rattle.vw_io.specs.Outputs.{Named, AreWritten, StopsWith}
 use Rattle.vw_io.specs.declared.shelves.WriteRefused.{WriteRefused}
@@ -32,6 +32,7 @@ use Rattle.script_files.specs.Orders.{DagAsked}
 use Rattle.script_files.specs.Outcomes.{Outcome}
 use Rattle.script_files.specs.Refusals.{of_vox, of_journal, output_name}
 use Rattle.script_files.specs.Requests.{inputs_of}
+use Rattle.script_files.proofs.Writing.{stops_earlier}
 
 -- ---- refusals
 
@@ -104,16 +105,17 @@ module _ (file journal : List ℕ) (models : List Content) (log : Log)
 
 -- ---- outcomes
 
-abbrev dag_output : DagAsked → List ℕ → List Named
+abbrev pub dag_output : DagAsked → List ℕ → List Named
 dag_output asked dag = record { name = asked.out; bytes = dag } ∷ []
 
 pub dag_written : (asked : DagAsked) (texts : List (List ℕ)) (dag : List ℕ)
     (old mid new : ShelfState)
     → AreTaken old.files (inputs_of (Dag asked)) texts
-    → MakesDag (file_in texts) (journal_in texts) dag → mid ≡ old
-    → AreWritten (dag_output asked dag) mid.files new.files → new.faults ≡ mid.faults
+    → MakesDag (file_in texts) (journal_in texts) dag → mid.files ≡ old.files
+    → old.faults ≤ mid.faults → AreWritten (dag_output asked dag) mid.files new.files
+    → mid.faults ≤ new.faults
     → Outcome (Ok (record { done = Written; ended = None })) (Dag asked) old new
-dag_written asked texts dag old mid new taken makes same whole calm = record {
+dag_written asked texts dag old mid new taken makes same grown whole more = record {
   outputs = dag_output asked dag;
   comes = record {
     texts = texts;
@@ -121,29 +123,29 @@ dag_written asked texts dag old mid new taken makes same whole calm = record {
     gives = record { dag = dag; makes = makes; are = refl };
   };
   whole = subst
-      (λ (s : ShelfState). AreWritten (dag_output asked dag) s.files new.files) same whole;
-  no_fault = calm ∙ ap (λ (s : ShelfState). s.faults) same;
+      (λ (f : Option Files). AreWritten (dag_output asked dag) f new.files) same whole;
+  never_falls = omega (arith, grown, more);
 }
 
 pub dag_stopped : (asked : DagAsked) (texts : List (List ℕ)) (dag : List ℕ) (why : WriteRefused)
     (name : List ℕ) (r : OutputRefused) (old mid new : ShelfState)
     → AreTaken old.files (inputs_of (Dag asked)) texts
-    → MakesDag (file_in texts) (journal_in texts) dag → mid ≡ old → r.why ≡ why
-    → output_name r.name ≡ name
+    → MakesDag (file_in texts) (journal_in texts) dag → mid.files ≡ old.files
+    → old.faults ≤ mid.faults → r.why ≡ why → output_name r.name ≡ name
     → StopsWith why name (dag_output asked dag) mid.files new.files mid.faults new.faults
     → Outcome (Err (Output r)) (Dag asked) old new
-dag_stopped asked texts dag why name r old mid new taken makes same is_why is_name stops = record {
-  outputs = dag_output asked dag;
-  begins = record {
-    texts = texts;
-    taken = taken;
-    begins = record { dag = dag; makes = makes; are = refl };
-  };
-  stops =
-      subst (λ (s : ShelfState). StopsWith r.why (output_name r.name)
-      (dag_output asked dag) s.files new.files s.faults new.faults) same
-      (subst (λ (w : WriteRefused). StopsWith w (output_name r.name)
-      (dag_output asked dag) mid.files new.files mid.faults new.faults) (sym is_why)
-      (subst (λ (n : List ℕ). StopsWith why n
-      (dag_output asked dag) mid.files new.files mid.faults new.faults) (sym is_name) stops));
-}
+dag_stopped asked texts dag why name r old mid new taken makes same grown is_why is_name stops =
+    record {
+      outputs = dag_output asked dag;
+      begins = record {
+        texts = texts;
+        taken = taken;
+        begins = record { dag = dag; makes = makes; are = refl };
+      };
+      stops =
+          stops_earlier r.why (output_name r.name) (dag_output asked dag) old mid new same grown
+          (subst (λ (w : WriteRefused). StopsWith w (output_name r.name)
+          (dag_output asked dag) mid.files new.files mid.faults new.faults) (sym is_why)
+          (subst (λ (n : List ℕ). StopsWith why n
+          (dag_output asked dag) mid.files new.files mid.faults new.faults) (sym is_name) stops));
+    }

@@ -6,7 +6,7 @@ use Rattle.std.proofs.lemmas.List.Elements.{All-append, All-contains, All-head, 
 use Rattle.vw_io.specs.declared.shelves.WriteRefused.{WriteRefused}
 use Rattle.vw_io.specs.declared.shelves.WriteRefused.TheVariants.{Memory}
 use Rattle.history_model.specs.Logs.{Log}
-use Rattle.vw_io.specs.Outside.{Files, ShelfState}
+use Rattle.vw_io.specs.Outside.{Files, ShelfState, KeepsFiles}
 use Rattle.vw_io.specs.Inputs.{WantedInput, AreTaken}
 use Rattle.vw_io.specs.Outputs.{Named, AreWritten, StopsWith}
 use Rattle.history_model.specs.Journal.{journal_of}
@@ -56,7 +56,7 @@ use Rattle.script_files.specs.Outcomes.{Outcome}
 use Rattle.script_files.specs.Stages.{CountsFile, JournalIs, ReadsInputs, given_of, ClosesRun, TellsClosedRun, HistoryTexts, AreTexts, WroteHistory, StopsOpen, StopsClosed, WritesClosed, WritesHistory, WroteRun, BeginsRun, StopsRun, WritesRun}
 use Rattle.world_run.proofs.Accepting.{saves_fit}
 use Rattle.script_files.proofs.SavedFiles.{IsGood, save_same}
-use Rattle.script_files.proofs.Writing.{both_written, stops_after, stops_before, stops_at_once}
+use Rattle.script_files.proofs.Writing.{both_written, stops_after, stops_before, stops_earlier, stops_at_once}
 
 -- the first text is within the first input's limit
 pub file_within : (files : Option Files) (input : WantedInput) (inputs : List WantedInput)
@@ -70,15 +70,15 @@ pub unwritten : (files : Option Files) → AreWritten [] files files
 unwritten None = refl
 unwritten (Some files) = record { each = λ name. refl }
 
-pub same_state : (old new : ShelfState) → new.files ≡ old.files → new.faults ≡ old.faults
-    → new ≡ old
-same_state old new files faults = rw (files, faults) refl
+keeps : (old new : ShelfState) → new.files ≡ old.files → old.faults ≤ new.faults
+    → KeepsFiles old new
+keeps old new files faults = record { files = files; never_falls = faults }
 
 -- ---- `count`
 
 pub counted : (file : List ℕ) (texts : List (List ℕ)) (number : ℕ) (old new : ShelfState)
     → AreTaken old.files (inputs_of (Count file)) texts → CountsFile (file_in texts) number
-    → new.files ≡ old.files → new.faults ≡ old.faults
+    → new.files ≡ old.files → old.faults ≤ new.faults
     → Outcome (Ok (record { done = Counted number; ended = None })) (Count file) old new
 counted file texts number old new taken counts files faults =
     record {
@@ -91,7 +91,7 @@ counted file texts number old new taken counts files faults =
       };
       whole = subst (λ (f : Option Files). AreWritten [] old.files f) (sym files)
           (unwritten old.files);
-      no_fault = faults;
+      never_falls = faults;
     }
 
 -- ---- every command
@@ -99,27 +99,27 @@ counted file texts number old new taken counts files faults =
 -- the inputs were taken, and their texts are refused
 pub not_accepted : (r : TextRefused) (a : Request) (texts : List (List ℕ)) (old new : ShelfState)
     → AreTaken old.files (inputs_of a) texts → RefusesTexts r a texts → new.files ≡ old.files
-    → new.faults ≡ old.faults → Outcome (Err (Text r)) a old new
+    → old.faults ≤ new.faults → Outcome (Err (Text r)) a old new
 not_accepted (Vox fault) a texts old new taken says files faults =
-    (record { texts = texts; taken = taken; says = says }, same_state old new files faults)
+    (record { texts = texts; taken = taken; says = says }, keeps old new files faults)
 not_accepted (Script at) a texts old new taken says files faults =
-    (record { texts = texts; taken = taken; says = says }, same_state old new files faults)
+    (record { texts = texts; taken = taken; says = says }, keeps old new files faults)
 not_accepted Collides a texts old new taken says files faults =
-    (record { texts = texts; taken = taken; says = says }, same_state old new files faults)
+    (record { texts = texts; taken = taken; says = says }, keeps old new files faults)
 not_accepted (NoScene fault) a texts old new taken says files faults =
-    (record { texts = texts; taken = taken; says = says }, same_state old new files faults)
+    (record { texts = texts; taken = taken; says = says }, keeps old new files faults)
 not_accepted NoPlace a texts old new taken says files faults =
-    (record { texts = texts; taken = taken; says = says }, same_state old new files faults)
+    (record { texts = texts; taken = taken; says = says }, keeps old new files faults)
 not_accepted (StoreFull full) a texts old new taken says files faults =
-    (record { texts = texts; taken = taken; says = says }, same_state old new files faults)
+    (record { texts = texts; taken = taken; says = says }, keeps old new files faults)
 not_accepted (Journal line) a texts old new taken says files faults =
-    (record { texts = texts; taken = taken; says = says }, same_state old new files faults)
+    (record { texts = texts; taken = taken; says = says }, keeps old new files faults)
 not_accepted (Transcript at) a texts old new taken says files faults =
-    (record { texts = texts; taken = taken; says = says }, same_state old new files faults)
+    (record { texts = texts; taken = taken; says = says }, keeps old new files faults)
 not_accepted (NoDag place) a texts old new taken says files faults =
-    (record { texts = texts; taken = taken; says = says }, same_state old new files faults)
+    (record { texts = texts; taken = taken; says = says }, keeps old new files faults)
 not_accepted texts_refused.Memory a texts old new taken says files faults =
-    (tt, same_state old new files faults)
+    (tt, keeps old new files faults)
 
 -- ---- what a run writes
 
@@ -192,7 +192,7 @@ pub history_written : (asked : Asked) (r : RunState) (closed : Closed) (written 
     (outputs : List Named) (tally : Tally) (old new : ShelfState) → ClosesRun r closed
     → AreTexts asked r.models closed.history written → outputs ≡ outputs_last asked written
     → tally ≡ written.tally
-    → AreWritten outputs old.files new.files → new.faults ≡ old.faults
+    → AreWritten outputs old.files new.files → old.faults ≤ new.faults
     → WroteHistory asked r tally closed old new
 history_written asked r closed written outputs tally old new closes are is told whole calm =
     record {
@@ -203,7 +203,7 @@ history_written asked r closed written outputs tally old new closes are is told 
       reported = are.report_is;
       whole = subst (λ (os : List Named). AreWritten os old.files new.files)
           (is ∙ last_same asked r.models closed.history written are) whole;
-      calm = calm;
+      never_falls = calm;
     }
 
 -- a refusal that was made of this name and cause
@@ -279,7 +279,7 @@ module _ (asked : Asked) (run : ScriptsRun) (old : ShelfState) where
       old.faults new.faults stops)
 
   module _ (mid : ShelfState) (texts_whole : AreWritten texts_named old.files mid.files)
-      (texts_calm : mid.faults ≡ old.faults) where
+      (texts_calm : old.faults ≤ mid.faults) where
     pub stops_in_files : HadHistory run.run.tint run.run.plan run.run.models run.run.sessions
         → (r : OutputRefused) (new : ShelfState)
         → StopsWith r.why (output_name r.name) files_saved mid.files new.files mid.faults new.faults
@@ -290,7 +290,7 @@ module _ (asked : Asked) (run : ScriptsRun) (old : ShelfState) where
         new.files old.faults mid.faults new.faults texts_whole texts_calm stops)
 
     module _ (late : ShelfState) (files_whole : AreWritten files_saved mid.files late.files)
-        (files_calm : late.faults ≡ mid.faults) where
+        (files_calm : mid.faults ≤ late.faults) where
       first_whole : AreWritten (written_first asked given) old.files late.files
       first_whole =
           both_written texts_named files_saved old.files mid.files late.files texts_whole
@@ -305,7 +305,7 @@ module _ (asked : Asked) (run : ScriptsRun) (old : ShelfState) where
           old.faults new.faults) (append-nil (written_first asked given))
           (stops_after r.why (output_name r.name) (written_first asked given) [] old.files
           late.files new.files old.faults late.faults new.faults first_whole
-          (files_calm ∙ texts_calm) h.stops))
+          (omega (arith, texts_calm, files_calm)) h.stops))
 
       stops_in_history : (r : OutputRefused) (new : ShelfState)
           → StopsClosed asked run.run r late new → StopsRun asked run r old new
@@ -326,7 +326,7 @@ module _ (asked : Asked) (run : ScriptsRun) (old : ShelfState) where
         stops =
             stops_after r.why (output_name r.name) (written_first asked given) h.outputs old.files
             late.files new.files old.faults late.faults new.faults first_whole
-            (files_calm ∙ texts_calm) h.stops;
+            (omega (arith, texts_calm, files_calm)) h.stops;
       }
 
       all_written : (tally : Tally) (closed : Closed) (new : ShelfState)
@@ -340,7 +340,8 @@ module _ (asked : Asked) (run : ScriptsRun) (old : ShelfState) where
         whole =
             both_written (written_first asked given) (written_last asked closed.history h.report)
             old.files late.files new.files first_whole h.whole;
-        calm = h.calm ∙ files_calm ∙ texts_calm;
+        never_falls =
+            (let more = h.never_falls in omega (arith, texts_calm, files_calm, more));
       }
 
       pub run_writes : (result : Result RunWritten OutputRefused) (new : ShelfState)
@@ -486,7 +487,7 @@ module _ (asked : Asked) (texts : List (List ℕ)) (r : Read) (run : ScriptsRun)
     (models_are : run.run.models ≡ r.models)
     (kept : run.run.kept ≡ kept_of r.scripts.items run.transcripts.items run.run.sessions)
     (fits : AreFitScripts asked.tint asked.plan.side r.models r.scripts.items)
-    (same : mid ≡ old) where
+    (same : mid.files ≡ old.files) (grown : old.faults ≤ mid.faults) where
   abbrev accepts : (log : Log)
       → ClosesWorld run.run.tint run.run.plan run.run.models run.run.sessions log
       → IsAccepted asked texts log run.transcripts.items
@@ -505,30 +506,30 @@ module _ (asked : Asked) (texts : List (List ℕ)) (r : Read) (run : ScriptsRun)
   pub run_written : (tally : Tally) (closed : Closed) → WroteRun asked run tally closed mid new
       → Outcome (Ok (record { done = Ran tally; ended = Some closed })) (Run asked) old new
   run_written tally closed wrote =
-      let w : WroteRun asked run tally closed old new =
-      subst (λ (s : ShelfState). WroteRun asked run tally closed s new) same wrote in
       record {
-        outputs = texts_written asked (given_of run) closed.history w.report;
+        outputs = texts_written asked (given_of run) closed.history wrote.report;
         comes = record {
           texts = texts;
           taken = taken;
           gives = record {
             log = closed.history;
             transcripts = run.transcripts.items;
-            accepted = accepts closed.history w.closes.closes;
+            accepted = accepts closed.history wrote.closes.closes;
             ends = ends_world asked r.models r.scripts.items run ran plan_is tint_is models_are kept
-                fits closed w.closes;
+                fits closed wrote.closes;
             tallied = subst (λ (ms : List Content). TalliesRun asked ms closed.history tally)
-                models_are w.tallied;
-            report = w.report;
+                models_are wrote.tallied;
+            report = wrote.report;
             reported = subst (λ (ms : List Content).
-                ReportIs asked.report ms closed.history w.report) models_are w.reported;
+                ReportIs asked.report ms closed.history wrote.report) models_are wrote.reported;
             are = texts_same asked r.models r.scripts.items run ran plan_is tint_is models_are kept
-                fits closed.history w.closes.closes w.report;
+                fits closed.history wrote.closes.closes wrote.report;
           };
         };
-        whole = w.whole;
-        no_fault = w.calm;
+        whole = subst (λ (f : Option Files).
+            AreWritten (texts_written asked (given_of run) closed.history wrote.report) f new.files)
+            same wrote.whole;
+        never_falls = (let more = wrote.never_falls in omega (arith, grown, more));
       }
 
   run_begun : (outputs : List Named) → BeginsRun asked run outputs
@@ -544,14 +545,14 @@ module _ (asked : Asked) (texts : List (List ℕ)) (r : Read) (run : ScriptsRun)
   pub run_stopped : (refused : OutputRefused) → StopsRun asked run refused mid new
       → Outcome (Err (Output refused)) (Run asked) old new
   run_stopped refused stopped =
-      let s : StopsRun asked run refused old new =
-      subst (λ (s : ShelfState). StopsRun asked run refused s new) same stopped in
       record {
-        outputs = s.outputs;
+        outputs = stopped.outputs;
         begins = record {
           texts = texts;
           taken = taken;
-          begins = run_begun s.outputs s.begins;
+          begins = run_begun stopped.outputs stopped.begins;
         };
-        stops = s.stops;
+        stops = stops_earlier refused.why
+            (output_name refused.name) stopped.outputs old mid new same
+            grown stopped.stops;
       }

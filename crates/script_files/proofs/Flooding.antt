@@ -1,8 +1,8 @@
 -- What a flood gives, as an outcome of the whole command.
-use Rattle.std.proofs.Common.{◌≡◌, ℕ, inl, inr, Bool, true, false, List, [], ◌∷◌, Option, Some, None, Ok, Err, refl, sym, ap, subst, ◌∙◌, arith}
+use Rattle.std.proofs.Common.{◌≡◌, ◌≤◌, ℕ, inl, inr, Bool, true, false, List, [], ◌∷◌, Option, Some, None, Ok, Err, refl, sym, ap, subst, ◌∙◌, arith}
 use Rattle.std.specs.List.{slice_get}
 use Rattle.std.proofs.lemmas.Option.{slice_get_within, get_or_from_slice_get}
-use Rattle.vw_io.specs.Outside.{ShelfState}
+use Rattle.vw_io.specs.Outside.{Files, ShelfState}
 use Rattle.vw_io.specs.Inputs.{AreTaken}
 use Rattle.vw_io.specs.Outputs.{Named, AreWritten, StopsWith}
 use Rattle.vw_io.specs.declared.shelves.WriteRefused.{WriteRefused}
@@ -27,6 +27,7 @@ use Rattle.script_files.specs.Outcomes.{Outcome}
 use Rattle.script_files.specs.Refusals.{output_name, of_vox, of_flood}
 use Rattle.script_files.specs.Requests.{inputs_of}
 use Rattle.script_files.proofs.Refusing.{vox_refused}
+use Rattle.script_files.proofs.Writing.{stops_earlier}
 
 -- ---- places
 
@@ -115,34 +116,35 @@ text_refused Memory asked texts says = tt
 
 -- ---- outcomes
 
-abbrev region_output : FloodAsked → List ℕ → List Named
+abbrev pub region_output : FloodAsked → List ℕ → List Named
 region_output asked file = record { name = asked.out; bytes = file } ∷ []
 
 pub flooded : (asked : FloodAsked) (texts : List (List ℕ)) (number : ℕ) (file : List ℕ)
     (old mid new : ShelfState) → AreTaken old.files (inputs_of (Flood asked)) texts
-    → FloodsText asked (file_in texts) number file → mid ≡ old
-    → AreWritten (region_output asked file) mid.files new.files → new.faults ≡ mid.faults
+    → FloodsText asked (file_in texts) number file → mid.files ≡ old.files
+    → old.faults ≤ mid.faults → AreWritten (region_output asked file) mid.files new.files
+    → mid.faults ≤ new.faults
     → Outcome (Ok (record { done = Counted number; ended = None })) (Flood asked) old new
-flooded asked texts number file old mid new taken floods same whole calm = record {
+flooded asked texts number file old mid new taken floods same grown whole more = record {
   outputs = region_output asked file;
   comes = record {
     texts = texts;
     taken = taken;
     gives = record { file = file; floods = floods; are = refl };
   };
-  whole = subst (λ (s : ShelfState). AreWritten (region_output asked file) s.files new.files) same
+  whole = subst (λ (f : Option Files). AreWritten (region_output asked file) f new.files) same
       whole;
-  no_fault = calm ∙ ap (λ (s : ShelfState). s.faults) same;
+  never_falls = omega (arith, grown, more);
 }
 
 pub flood_stopped : (asked : FloodAsked) (texts : List (List ℕ)) (number : ℕ) (file : List ℕ)
     (why : WriteRefused) (name : List ℕ) (r : OutputRefused) (old mid new : ShelfState)
     → AreTaken old.files (inputs_of (Flood asked)) texts
-    → FloodsText asked (file_in texts) number file → mid ≡ old → r.why ≡ why
-    → output_name r.name ≡ name
+    → FloodsText asked (file_in texts) number file → mid.files ≡ old.files
+    → old.faults ≤ mid.faults → r.why ≡ why → output_name r.name ≡ name
     → StopsWith why name (region_output asked file) mid.files new.files mid.faults new.faults
     → Outcome (Err (Output r)) (Flood asked) old new
-flood_stopped asked texts number file why name r old mid new taken floods same is_why is_name stops =
+flood_stopped asked texts number file why name r old mid new taken floods same grown is_why is_name stops =
     record {
       outputs = region_output asked file;
       begins = record {
@@ -158,6 +160,5 @@ flood_stopped asked texts number file why name r old mid new taken floods same i
           old.files new.files old.faults new.faults) (sym is_why)
           (subst (λ (n : List ℕ). StopsWith why n (region_output asked file) old.files new.files
           old.faults new.faults) (sym is_name)
-          (subst (λ (s : ShelfState). StopsWith why name (region_output asked file) s.files
-          new.files s.faults new.faults) same stops));
+          (stops_earlier why name (region_output asked file) old mid new same grown stops));
     }

@@ -176,7 +176,7 @@ module _ (n : ℕ) (r : Read) (run : ScriptsRun) (old new : ShelfState) (counted
           };
         };
         whole = w.whole;
-        no_fault = w.calm;
+        never_falls = w.never_falls;
       }
 
   demo_begun : (outputs : List Named) → BeginsRun demo_asked run outputs → LoadBegan n outputs

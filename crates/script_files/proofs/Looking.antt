@@ -1,5 +1,5 @@
 -- What a look gives, as an outcome of the whole command.
-use Rattle.std.proofs.Common.{◌≡◌, ℕ, List, [], Option, None, Ok, refl, sym, subst}
+use Rattle.std.proofs.Common.{◌≡◌, ◌≤◌, ℕ, List, [], Option, None, Ok, refl, sym, subst}
 use Rattle.vw_io.specs.Outside.{Files, ShelfState}
 use Rattle.vw_io.specs.Inputs.{AreTaken}
 use Rattle.vw_io.specs.Outputs.{AreWritten}
@@ -22,7 +22,7 @@ use Rattle.script_files.proofs.Ending.{unwritten}
 pub looked : (asked : LookAsked) (texts : List (List ℕ)) (answer : Answer) (old new : ShelfState)
     → AreTaken old.files (inputs_of (Look asked)) texts
     → AnswersLook (file_in texts) asked.version asked.question answer
-    → new.files ≡ old.files → new.faults ≡ old.faults
+    → new.files ≡ old.files → old.faults ≤ new.faults
     → Outcome (Ok (record { done = Looked answer; ended = None })) (Look asked) old new
 looked asked texts answer old new taken answers files faults = record {
   outputs = [];
@@ -33,7 +33,7 @@ looked asked texts answer old new taken answers files faults = record {
   };
   whole = subst (λ (f : Option Files). AreWritten [] old.files f) (sym files)
       (unwritten old.files);
-  no_fault = faults;
+  never_falls = faults;
 }
 
 pub look_refused : (asked : LookAsked) (bytes : List ℕ) (refused : LookRefused)

@@ -1,6 +1,6 @@
 -- What a scene gives, as an outcome of the whole command.
-use Rattle.std.proofs.Common.{◌≡◌, ℕ, ◌+◌, ◌^◌, ◌≤◌, List, [], ◌∷◌, None, Ok, Err, refl, sym, ap, subst, ◌∙◌}
-use Rattle.vw_io.specs.Outside.{ShelfState}
+use Rattle.std.proofs.Common.{◌≡◌, ℕ, ◌+◌, ◌^◌, ◌≤◌, List, [], ◌∷◌, Option, None, Ok, Err, refl, sym, ap, subst, ◌∙◌, arith}
+use Rattle.vw_io.specs.Outside.{Files, ShelfState}
 use Rattle.vw_io.specs.Inputs.{AreTaken}
 use Rattle.vw_io.specs.Outputs.{Named, AreWritten, StopsWith}
 use Rattle.vw_io.specs.declared.shelves.WriteRefused.{WriteRefused}
@@ -27,6 +27,7 @@ use Rattle.script_files.specs.Outcomes.{Outcome}
 use Rattle.script_files.specs.Refusals.{output_name, of_vox, of_scene}
 use Rattle.script_files.specs.Requests.{inputs_of}
 use Rattle.script_files.proofs.Refusing.{vox_refused}
+use Rattle.script_files.proofs.Writing.{stops_earlier}
 
 -- ---- refusals
 
@@ -106,38 +107,40 @@ scene_told bytes scene told models script has are short tells = record {
 
 -- ---- outcomes
 
-abbrev scene_outputs : SceneAsked → List ℕ → List ℕ → List Named
+abbrev pub scene_outputs : SceneAsked → List ℕ → List ℕ → List Named
 scene_outputs asked models script = record { name = asked.out; bytes = models }
     ∷ record { name = asked.script; bytes = script } ∷ []
 
 pub scene_written : (asked : SceneAsked) (texts : List (List ℕ)) (told : SceneTally)
     (models script : List ℕ) (old mid new : ShelfState)
     → AreTaken old.files (inputs_of (Scene asked)) texts
-    → PlacesText (file_in texts) told models script → mid ≡ old
-    → AreWritten (scene_outputs asked models script) mid.files new.files → new.faults ≡ mid.faults
+    → PlacesText (file_in texts) told models script → mid.files ≡ old.files
+    → old.faults ≤ mid.faults
+    → AreWritten (scene_outputs asked models script) mid.files new.files → mid.faults ≤ new.faults
     → Outcome (Ok (record { done = Placed told; ended = None })) (Scene asked) old new
-scene_written asked texts told models script old mid new taken places same whole calm = record {
-  outputs = scene_outputs asked models script;
-  comes = record {
-    texts = texts;
-    taken = taken;
-    gives = record { models = models; script = script; places = places; are = refl };
-  };
-  whole = subst
-      (λ (s : ShelfState). AreWritten (scene_outputs asked models script) s.files new.files)
-      same whole;
-  no_fault = calm ∙ ap (λ (s : ShelfState). s.faults) same;
-}
+scene_written asked texts told models script old mid new taken places same grown whole more =
+    record {
+      outputs = scene_outputs asked models script;
+      comes = record {
+        texts = texts;
+        taken = taken;
+        gives = record { models = models; script = script; places = places; are = refl };
+      };
+      whole = subst
+          (λ (f : Option Files). AreWritten (scene_outputs asked models script) f new.files)
+          same whole;
+      never_falls = omega (arith, grown, more);
+    }
 
 pub scene_stopped : (asked : SceneAsked) (texts : List (List ℕ)) (told : SceneTally)
     (models script : List ℕ) (why : WriteRefused) (name : List ℕ) (r : OutputRefused)
     (old mid new : ShelfState) → AreTaken old.files (inputs_of (Scene asked)) texts
-    → PlacesText (file_in texts) told models script → mid ≡ old → r.why ≡ why
-    → output_name r.name ≡ name
+    → PlacesText (file_in texts) told models script → mid.files ≡ old.files
+    → old.faults ≤ mid.faults → r.why ≡ why → output_name r.name ≡ name
     → StopsWith why name (scene_outputs asked models script) mid.files new.files mid.faults
     new.faults
     → Outcome (Err (Output r)) (Scene asked) old new
-scene_stopped asked texts told models script why name r old mid new taken places same is_why is_name stops =
+scene_stopped asked texts told models script why name r old mid new taken places same grown is_why is_name stops =
     record {
       outputs = scene_outputs asked models script;
       begins = record {
@@ -154,6 +157,6 @@ scene_stopped asked texts told models script why name r old mid new taken places
           (sym is_why)
           (subst (λ (n : List ℕ). StopsWith why n (scene_outputs asked models script) old.files
           new.files old.faults new.faults) (sym is_name)
-          (subst (λ (s : ShelfState). StopsWith why name (scene_outputs asked models script) s.files
-          new.files s.faults new.faults) same stops));
+          (stops_earlier why name
+          (scene_outputs asked models script) old mid new same grown stops));
     }

@@ -5,10 +5,10 @@ use Rattle.std.proofs.lemmas.Option.{none-some, get_or_from_slice_get}
 use Rattle.std.proofs.lemmas.List.{take-append-drop, take-take, drop-take, take_all}
 use Rattle.vw_io.specs.declared.shelves.WriteRefused.{WriteRefused}
 use Rattle.vw_io.specs.declared.shelves.WriteRefused.TheVariants.{Failed, Memory}
-use Rattle.vw_io.specs.Outside.{Files, Rose, ShelfState}
+use Rattle.vw_io.specs.Outside.{Files, ShelfState}
 use Rattle.vw_io.specs.Write.{WriteTold, WriteCause}
-use Rattle.vw_io.specs.Outputs.{Named, written, AreWritten, StopsWith}
-use Rattle.vw_io.proofs.Written.{none_yet, next_written, stops_with}
+use Rattle.vw_io.specs.Outputs.{Named, written, AreWritten, ArePrefix, BreaksAt, StopsWith}
+use Rattle.vw_io.proofs.Written.{none_yet, next_written, stops_with, rose_since}
 use Rattle.script_files.specs.declared.refusals.OutputRefused.{OutputRefused}
 use Rattle.script_files.specs.Refusals.{output_name}
 use Rattle.script_files.specs.Stages.{Writes}
@@ -36,9 +36,9 @@ both_written a b (Some old) (Some mid) (Some new) first second = record {
 -- the second ones were not all written
 pub stops_after : (why : WriteRefused) (name : List ℕ) (a b : List Named)
     (old mid new : Option Files) (faults between risen : ℕ) → AreWritten a old mid
-    → between ≡ faults → StopsWith why name b mid new between risen
+    → faults ≤ between → StopsWith why name b mid new between risen
     → StopsWith why name (a ++ b) old new faults risen
-stops_after Failed name a b old mid new faults between risen whole calm stops = (
+stops_after Failed name a b old mid new faults between risen whole grown stops = (
   record {
     output = stops.0.output;
     named = stops.0.named;
@@ -51,9 +51,9 @@ stops_after Failed name a b old mid new faults between risen whole calm stops = 
     whole = both_written a stops.0.first old mid stops.0.between whole stops.0.whole;
     left = stops.0.left;
   },
-  subst (λ (n : ℕ). Rose n risen) calm stops.1,
+  rose_since faults between risen grown stops.1,
 )
-stops_after Memory name a b old mid new faults between risen whole calm stops = (
+stops_after Memory name a b old mid new faults between risen whole grown stops = (
   record {
     first = a ++ stops.0.first;
     others = stops.0.others;
@@ -62,7 +62,7 @@ stops_after Memory name a b old mid new faults between risen whole calm stops = 
         ∙ sym (append_assoc a stops.0.first stops.0.others);
     whole = both_written a stops.0.first old mid new whole stops.0.whole;
   },
-  stops.1 ∙ calm,
+  omega (arith, grown, stops.1),
 )
 
 -- the first ones were not all written
@@ -96,6 +96,20 @@ stops_before Memory name a b old new faults risen stops = (
   stops.1,
 )
 
+-- what was not all written, as seen from before the inputs were read: the files were the same then
+pub stops_earlier : (why : WriteRefused) (name : List ℕ) (outputs : List Named)
+    (old mid new : ShelfState) → mid.files ≡ old.files → old.faults ≤ mid.faults
+    → StopsWith why name outputs mid.files new.files mid.faults new.faults
+    → StopsWith why name outputs old.files new.files old.faults new.faults
+stops_earlier Failed name outputs old mid new same grown stops = (
+  subst (λ (f : Option Files). BreaksAt name outputs f new.files) same stops.0,
+  rose_since old.faults mid.faults new.faults grown stops.1,
+)
+stops_earlier Memory name outputs old mid new same grown stops = (
+  subst (λ (f : Option Files). ArePrefix outputs f new.files) same stops.0,
+  (let more = stops.1 in omega (arith, grown, more)),
+)
+
 -- memory was wanted before anything was written
 pub stops_at_once : (why : WriteRefused) (name : List ℕ) (outputs : List Named)
     (files : Option Files) (faults : ℕ) → why ≡ Memory
@@ -103,7 +117,7 @@ pub stops_at_once : (why : WriteRefused) (name : List ℕ) (outputs : List Named
 stops_at_once Failed name outputs files faults is = absurd cc
 stops_at_once Memory name outputs files faults is = (
   record { first = []; others = outputs; parts = refl; whole = none_yet files },
-  refl,
+  omega arith,
 )
 
 -- ---- one output after the other
@@ -111,10 +125,10 @@ stops_at_once Memory name outputs files faults is = (
 -- the first k outputs are written
 pub record IsWrittenTo (outputs : List Named) (k : ℕ) (old now : ShelfState) : Type 0 where
   pub whole : AreWritten (take k outputs) old.files now.files
-  pub calm : now.faults ≡ old.faults
+  pub never_falls : old.faults ≤ now.faults
 
 pub none_written : (outputs : List Named) (old : ShelfState) → IsWrittenTo outputs 0 old old
-none_written outputs old = record { whole = none_yet old.files; calm = refl }
+none_written outputs old = record { whole = none_yet old.files; never_falls = omega arith }
 
 one_more : (outputs : List Named) (k : ℕ)
     → take (k + 1) outputs ≡ take k outputs ++ take 1 (drop k outputs)
@@ -129,7 +143,8 @@ next_output outputs k x old mid new so_far writes = record {
   whole = subst (λ (os : List Named). AreWritten os old.files new.files) (sym (one_more outputs k))
       (both_written (take k outputs) (take 1 (drop k outputs)) old.files mid.files new.files
       so_far.whole writes.0);
-  calm = writes.1 ∙ so_far.calm;
+  never_falls =
+      (let first = so_far.never_falls in let more = writes.1 in omega (arith, first, more));
 }
 
 pub next_stops : (r : OutputRefused) (outputs : List Named) (k : ℕ) (old mid new : ShelfState)
@@ -148,14 +163,14 @@ next_stops r outputs k old mid new so_far stops =
     subst (λ (os : List Named). StopsWith r.why name os old.files new.files old.faults new.faults)
     (take-append-drop k outputs)
     (stops_after r.why name (take k outputs) rest old.files mid.files new.files old.faults
-    mid.faults new.faults so_far.whole so_far.calm others)
+    mid.faults new.faults so_far.whole so_far.never_falls others)
 
 pub all_outputs : (outputs : List Named) (k : ℕ) (old new : ShelfState) → length outputs ≤ k
     → IsWrittenTo outputs k old new → Writes {X = Unit {0}} (Ok tt) outputs old new
 all_outputs outputs k old new past so_far = (
   subst (λ (os : List Named). AreWritten os old.files new.files) (take_all k outputs past)
       so_far.whole,
-  so_far.calm,
+  so_far.never_falls,
 )
 
 -- ---- one write
@@ -169,27 +184,27 @@ one_output f (y ∷ xs) (suc k) x is = one_output f xs k x is
 
 pub output_written : {X : Type 0} (f : X → Named) (xs : List X) (k : ℕ) (x : X) (bytes : List ℕ)
     (old new : ShelfState) (done : Unit {0}) → slice_get xs k ≡ Some x → bytes ≡ (f x).bytes
-    → WriteTold old.files new.files (f x).name bytes (Ok done) → new.faults ≡ old.faults
+    → WriteTold old.files new.files (f x).name bytes (Ok done) → old.faults ≤ new.faults
     → Writes {X = Unit {0}} (Ok tt) (take 1 (drop k (map f xs))) old new
-output_written f xs k x bytes old new done is of_bytes told calm = (
+output_written f xs k x bytes old new done is of_bytes told grown = (
   subst (λ (os : List Named). AreWritten os old.files new.files)
       (sym (one_output f xs k x is))
       (next_written (f x ∷ []) (f x) (f x) 0 old.files old.files new.files done (omega arith) refl
       (none_yet old.files)
       (subst (λ (b : List ℕ). WriteTold old.files new.files (f x).name b (Ok done)) of_bytes told)),
-  calm,
+  grown,
 )
 
 pub output_stops : {X : Type 0} (f : X → Named) (xs : List X) (k : ℕ) (x : X) (bytes : List ℕ)
     (old new : ShelfState) (why : WriteRefused) → slice_get xs k ≡ Some x → bytes ≡ (f x).bytes
     → WriteTold old.files new.files (f x).name bytes (Err why)
-    → WriteCause (Err why) old.faults new.faults
+    → WriteCause (Err why) old.faults new.faults → old.faults ≤ new.faults
     → StopsWith why (f x).name (take 1 (drop k (map f xs))) old.files new.files old.faults
     new.faults
-output_stops f xs k x bytes old new why is of_bytes told cause =
+output_stops f xs k x bytes old new why is of_bytes told cause grown =
     subst (λ (os : List Named). StopsWith why (f x).name os old.files new.files old.faults
     new.faults) (sym (one_output f xs k x is))
     (stops_with why (f x).name (f x ∷ []) (f x) (f x) 0 old.files old.files new.files old.faults
-    old.faults new.faults (omega arith) refl refl refl (none_yet old.files)
+    old.faults new.faults (omega arith) refl refl (omega arith) (none_yet old.files)
     (subst (λ (b : List ℕ). WriteTold old.files new.files (f x).name b (Err why)) of_bytes told)
-    cause)
+    cause grown)

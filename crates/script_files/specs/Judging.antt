@@ -7,6 +7,7 @@ use Rattle.vw_io.specs.Inputs.{WantedInput, Taken, AreTaken, StopsAt}
 use Rattle.vw_io.specs.declared.shelves.ReadRefused.{ReadRefused}
 use Rattle.vw_io.specs.declared.shelves.ReadRefused.TheVariants.{Missing, TooLong, Failed, Memory}
 use Rattle.vw_io.specs.Outputs.{Named, StopsWith}
+use Rattle.vw_io.proofs.Written.{rose_since}
 use Rattle.vw_io.specs.declared.shelves.WriteRefused.{WriteRefused}
 use Rattle.vw_io.specs.declared.shelves.WriteRefused.TheVariants as writes
 use Rattle.vox_chunk.specs.declared.faults.VoxFault.{VoxFault}
@@ -230,7 +231,8 @@ read_follows TooLong name a files faults risen v stops calm judges =
     by_stop a files (inputs_of a) TooLong name faults risen v (InputIsLong stops.input.name) stops
     (long_at stops.input (files stops.input.name) stops.cause.0) judges
     ∙ ap InputIsLong (sym stops.named)
-read_follows Failed name a files faults risen v stops calm judges = absurd (calm stops.cause)
+read_follows Failed name a files faults risen v stops calm judges =
+    absurd (calm (rose_since faults stops.at_read risen stops.before stops.cause))
 read_follows Memory name a files faults risen v stops calm judges = tt
 
 write_follows : (why : WriteRefused) (name : List ℕ) (outputs : List Named) (old new : Option Files)

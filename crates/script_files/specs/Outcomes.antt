@@ -1,7 +1,7 @@
 -- How a command ends, one case for each answer, and what it leaves on the shelf. This is said once,
 -- for every command.
-use Rattle.std.specs.Prelude.{◌≡◌, ℕ, List, Option, Result, Ok, Err, ⊤}
-use Rattle.vw_io.specs.Outside.{Files, ShelfState}
+use Rattle.std.specs.Prelude.{◌≡◌, ◌≤◌, ℕ, List, Option, Result, Ok, Err, ⊤}
+use Rattle.vw_io.specs.Outside.{Files, ShelfState, KeepsFiles}
 use Rattle.vw_io.specs.Inputs.{AreTaken, StopsAt}
 use Rattle.vw_io.specs.Outputs.{Named, AreWritten, StopsWith}
 use Rattle.vw_io.specs.declared.shelves.WriteRefused.{WriteRefused}
@@ -30,7 +30,7 @@ pub record Completes (done : Done) (ended : Option Closed) (a : Request)
   pub outputs : List Named
   pub comes : ComesTo done ended outputs a old.files
   pub whole : AreWritten outputs old.files new.files
-  pub no_fault : new.faults ≡ old.faults
+  pub never_falls : old.faults ≤ new.faults
 
 -- all inputs were taken, and these are the command's first outputs
 pub record BeginsTo (outputs : List Named) (a : Request) (files : Option Files) : Type 0 where
@@ -69,7 +69,7 @@ abbrev pub Refused : CommandRefused → Request → ShelfState → ShelfState �
 Refused (Input r) a old new =
     StopsAt r.why r.name.now (inputs_of a) old.files old.faults new.faults
     × (new.files ≡ old.files)
-Refused (Text r) a old new = RefusesFiles r a old.files × (new ≡ old)
+Refused (Text r) a old new = RefusesFiles r a old.files × KeepsFiles old new
 Refused (Output r) a old new = BreaksOff r.why (output_name r.name) a old new
 
 abbrev pub Outcome : Result Completed CommandRefused → Request → ShelfState → ShelfState → Type 0

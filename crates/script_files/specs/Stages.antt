@@ -1,5 +1,5 @@
 -- What the stages of a command give.
-use Rattle.std.specs.Prelude.{◌≡◌, ◌⊎◌, ℕ, Bool, false, List, [], ◌∷◌, ◌++◌, Option, Some, None, Result, Ok, Err, ⊤}
+use Rattle.std.specs.Prelude.{◌≡◌, ◌≤◌, ◌⊎◌, ℕ, Bool, false, List, [], ◌∷◌, ◌++◌, Option, Some, None, Result, Ok, Err, ⊤}
 use Rattle.vw_io.specs.Outside.{ShelfState}
 use Rattle.vw_io.specs.Outputs.{Named, AreWritten, StopsWith}
 use Rattle.vox_read.specs.Contents.{Content, cells_of_all}
@@ -93,7 +93,7 @@ pub record IsLoadRead (n : ℕ) (r : Read) : Type 0 where
 abbrev pub Writes : {X : Type 0} → Result X OutputRefused → List Named → ShelfState → ShelfState
     → Type 0
 Writes (Ok x) outputs old new =
-    AreWritten outputs old.files new.files × (new.faults ≡ old.faults)
+    AreWritten outputs old.files new.files × (old.faults ≤ new.faults)
 Writes (Err r) outputs old new =
     StopsWith r.why (output_name r.name) outputs old.files new.files old.faults new.faults
 
@@ -105,7 +105,7 @@ pub record WroteHistory (asked : Asked) (r : RunState) (tally : Tally) (closed :
   pub report : List ℕ
   pub reported : ReportIs asked.report r.models closed.history report
   pub whole : AreWritten (written_last asked closed.history report) old.files new.files
-  pub calm : new.faults ≡ old.faults
+  pub never_falls : old.faults ≤ new.faults
 
 -- or it was closed, and some first ones of these were written, of which the report may not have
 -- been made
@@ -153,7 +153,7 @@ pub record WroteRun (asked : Asked) (r : ScriptsRun) (tally : Tally) (closed : C
   pub reported : ReportIs asked.report r.run.models closed.history report
   pub whole : AreWritten (texts_written asked (given_of r) closed.history report) old.files
       new.files
-  pub calm : new.faults ≡ old.faults
+  pub never_falls : old.faults ≤ new.faults
 
 -- its sessions had one history, and these are first outputs
 pub record BeginsRun (asked : Asked) (r : ScriptsRun) (outputs : List Named) : Type 0 where

@@ -1,5 +1,5 @@
 -- Want of memory before all words are read.
-use Rattle.std.proofs.Common.{◌≡◌, ℕ, Option, Some, None, refl}
+use Rattle.std.proofs.Common.{◌≡◌, ℕ, Option, Some, None, refl, arith}
 use Rattle.vw_io.specs.Outside.{ShelfState, SinkState, outside}
 use Rattle.script_files.specs.Closed.{Closed}
 use Rattle.script_files.specs.declared.refusals.CommandRefused.TheVariants.{Text}
@@ -11,7 +11,7 @@ use Rattle.voxdag_top.specs.Finishing.{Finishes, Runs}
 
 unread_ends : (a : Option Request) (s : ShelfState) → EndsAs a (Refused (Text Memory)) s s
 unread_ends None s = (tt, refl)
-unread_ends (Some a) s = (tt, refl)
+unread_ends (Some a) s = (tt, record { files = refl; never_falls = omega arith })
 
 pub lacks : (a : Option Request) (s : ShelfState) (old new : SinkState) (result : ℕ)
     (left : Option Closed) → Finishes (Refused (Text Memory)) old new result

@@ -17,6 +17,7 @@ use Rattle.script_files.specs.Outcomes.{Outcome}
 use Rattle.script_files.specs.Refusals.{output_name}
 use Rattle.std.proofs.Common.{zero}
 use Rattle.script_files.specs.Closed.{Closed}
+use Rattle.voxdag_top.specs.Numbers.{Status, Finished, Misuse, MissingInput, FailedInput, FaultyVox, FaultyScript, FailedOutput, LackingMemory, LongInput, NoSuchPlace, FaultyScene, FaultyJournal, FilledStore, FaultyDag, FaultyTranscript}
 use Rattle.voxdag_top.specs.declared.endings.Ending.{Ending}
 use Rattle.voxdag_top.specs.declared.endings.Ending.TheVariants.{Completed, Usage, Refused}
 use Rattle.voxdag_top.specs.Lines.{done_line, usage_line, scene_line, no_place_line, full_line, dag_line, journal_line, transcript_line, vox_line, script_line, input_line, output_line, memory_line}
@@ -38,36 +39,36 @@ abbrev pub EndsAs : Option Request → Ending → ShelfState → ShelfState → 
 EndsAs None e old new = EndsUnread e × (new ≡ old)
 EndsAs (Some a) e old new = CommandEnds e a old new
 
-abbrev pub input_status : ReadRefused → ℕ
-input_status reads.Missing = 2
-input_status reads.Failed = 3
-input_status reads.Memory = 8
-input_status reads.TooLong = 9
+abbrev pub input_status : ReadRefused → Status
+input_status reads.Missing = MissingInput
+input_status reads.Failed = FailedInput
+input_status reads.Memory = LackingMemory
+input_status reads.TooLong = LongInput
 
-abbrev pub output_status : WriteRefused → ℕ
-output_status writes.Failed = 6
-output_status writes.Memory = 8
+abbrev pub output_status : WriteRefused → Status
+output_status writes.Failed = FailedOutput
+output_status writes.Memory = LackingMemory
 
-abbrev pub text_status : TextRefused → ℕ
-text_status (Vox fault) = 4
-text_status (Script at) = 5
-text_status Collides = 1
-text_status NoPlace = 10
-text_status (NoScene fault) = 11
-text_status (StoreFull full) = 13
-text_status (Journal line) = 12
-text_status (Transcript at) = 15
-text_status (NoDag place) = 14
-text_status Memory = 8
+abbrev pub text_status : TextRefused → Status
+text_status (Vox fault) = FaultyVox
+text_status (Script at) = FaultyScript
+text_status Collides = Misuse
+text_status NoPlace = NoSuchPlace
+text_status (NoScene fault) = FaultyScene
+text_status (StoreFull full) = FilledStore
+text_status (Journal line) = FaultyJournal
+text_status (Transcript at) = FaultyTranscript
+text_status (NoDag place) = FaultyDag
+text_status Memory = LackingMemory
 
-abbrev pub refused_status : CommandRefused → ℕ
+abbrev pub refused_status : CommandRefused → Status
 refused_status (Input r) = input_status r.why
 refused_status (Text r) = text_status r
 refused_status (Output r) = output_status r.why
 
-abbrev pub status_of : Ending → ℕ
-status_of (Completed c) = 0
-status_of Usage = 1
+abbrev pub status_of : Ending → Status
+status_of (Completed c) = Finished
+status_of Usage = Misuse
 status_of (Refused r) = refused_status r
 
 abbrev pub text_line : TextRefused → List ℕ

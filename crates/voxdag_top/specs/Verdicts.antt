@@ -1,10 +1,11 @@
 -- Which status must come, for what the words ask of a shelf that tells its files.
-use Rattle.std.specs.Prelude.{ℕ, Option, Some, None, ⊤}
+use Rattle.std.specs.Prelude.{◌≡◌, ◌⊎◌, ℕ, Option, Some, None, ⊤}
 use Rattle.vw_io.specs.Outside.{Files}
 use Rattle.script_files.specs.declared.requests.Request.{Request}
-use Rattle.script_files.specs.declared.requests.Request.TheVariants.{Dag, Audit}
+use Rattle.script_files.specs.declared.requests.Request.TheVariants.{Flood, Dag, Audit}
 use Rattle.script_files.specs.Verdicts.{Verdict, Fine, LacksInput, InputIsLong, HasVoxFault, HasScriptFault, NamesCollide, HasNoPlace, HasSceneFault, HasDagFault, HasJournalFault, HasTranscriptFault}
 use Rattle.script_files.specs.Verdicts as commands
+use Rattle.voxdag_top.specs.Numbers.{Status, Finished, Misuse, MissingInput, FaultyVox, FaultyScript, LongInput, NoSuchPlace, FaultyScene, FaultyJournal, FilledStore, FaultyDag, FaultyTranscript, IsOr, status_number}
 
 -- whether it asks for texts alone of which it is computed what they say: not for a journal
 abbrev pub ReadsNoJournal : Request → Type 0
@@ -17,15 +18,28 @@ abbrev pub JudgesWords : Option Request → Files → Verdict → Type 0
 JudgesWords None files v = ⊥
 JudgesWords (Some a) files v = commands.Judges files a v
 
-abbrev pub status_for : Verdict → ℕ
-status_for Fine = 0
-status_for NamesCollide = 1
-status_for (LacksInput name) = 2
-status_for (HasVoxFault fault) = 4
-status_for (HasScriptFault at) = 5
-status_for (InputIsLong name) = 9
-status_for HasNoPlace = 10
-status_for (HasSceneFault fault) = 11
-status_for (HasDagFault place) = 14
-status_for HasJournalFault = 12
-status_for HasTranscriptFault = 15
+abbrev pub status_for : Verdict → Status
+status_for Fine = Finished
+status_for NamesCollide = Misuse
+status_for (LacksInput name) = MissingInput
+status_for (HasVoxFault fault) = FaultyVox
+status_for (HasScriptFault at) = FaultyScript
+status_for (InputIsLong name) = LongInput
+status_for HasNoPlace = NoSuchPlace
+status_for (HasSceneFault fault) = FaultyScene
+status_for (HasDagFault place) = FaultyDag
+status_for HasJournalFault = FaultyJournal
+status_for HasTranscriptFault = FaultyTranscript
+
+-- where nothing is wrong the status is 0, or 7 or 8, and of a command with a store of its own it
+-- may be 13
+abbrev pub HasStore : Option Request → Type 0
+HasStore (Some (Flood asked)) = ⊤
+HasStore (Some (Dag asked)) = ⊤
+HasStore (Some (Audit asked)) = ⊤
+HasStore _ = ⊥
+
+abbrev pub MayCome : Option Request → Verdict → ℕ → Type 0
+MayCome a v result =
+    IsOr (status_for v) result
+    ⊎ (HasStore a × (v ≡ Fine) × (result ≡ status_number FilledStore))

@@ -1,14 +1,12 @@
-ghost use Rattle.std.specs.Prelude.{◌≡◌, ◌≢◌, ◌≤◌, [], Some, None, IsTrue, IfSome, length, map, string_bytes, string_capacity};
-ghost use Rattle.vw_io.specs.Outside.{Files, Rose, outside};
+ghost use Rattle.std.specs.Prelude.{◌≡◌, ◌≤◌, [], Some, None, IfSome, length, map, string_bytes, string_capacity};
+ghost use Rattle.vw_io.specs.Outside.{outside};
 ghost use Rattle.script_files.specs.Requests.{transcript_name};
 ghost use Rattle.script_files.specs.Commands.{scripts_asked};
-ghost use Rattle.script_files.specs.Verdicts.{Verdict};
 ghost use Rattle.requests.specs.command_line.Texts.{texts};
 ghost use Rattle.voxdag_top.specs.Words.{request_of, run_line_texts};
 ghost use Rattle.voxdag_top.specs.Endings.{CommandEnds};
 ghost use Rattle.voxdag_top.specs.Finishing.{Runs, OutputsFit, IsEndingNamed};
-ghost use Rattle.voxdag_top.specs.Verdicts.{JudgesWords, status_for};
-ghost use Rattle.voxdag_top.specs.Statuses.{IsOr, is_status, CameToEnd, Finished, Unusable, Missed, Faulted, VoxRefused, ScriptRefused, WriteFailed, OutFailed, LacksMemory, Exceeded, NoPlaceThere, SceneRefused, JournalRefused, StoreFilled, DagRefused, TranscriptRefused, MayCome};
+ghost use Rattle.voxdag_top.specs.Promises.{Promises, Promised};
 
 use crate::endings::{Ending, Gated};
 use crate::lines::{fault_room, finish};
@@ -63,66 +61,8 @@ pub fn voxdag<S: Shelf, O: Sink, R: Threads + Wait + Sync>(
     shelf: &mut S,
     out: &mut O,
 ) -> u8
-    ensures known { IsTrue (is_status result) }
-
-    // what each status says
-    ensures done { result ≡ 0 → CameToEnd (request_of (texts words.now))
-        (outside (S.state shelf.old) (O.state out.old))
-        (outside (S.state shelf.new) (O.state out.new)) }
-    ensures usage { result ≡ 1 → Unusable (request_of (texts words.now))
-        (outside (S.state shelf.old) (O.state out.old))
-        (outside (S.state shelf.new) (O.state out.new)) }
-    ensures missing { result ≡ 2 → Missed (request_of (texts words.now))
-        (outside (S.state shelf.old) (O.state out.old))
-        (outside (S.state shelf.new) (O.state out.new)) }
-    ensures read_fault { result ≡ 3 → Faulted (request_of (texts words.now))
-        (outside (S.state shelf.old) (O.state out.old))
-        (outside (S.state shelf.new) (O.state out.new)) }
-    ensures vox_refused { result ≡ 4 → VoxRefused (request_of (texts words.now))
-        (outside (S.state shelf.old) (O.state out.old))
-        (outside (S.state shelf.new) (O.state out.new)) }
-    ensures script_refused { result ≡ 5 → ScriptRefused (request_of (texts words.now))
-        (outside (S.state shelf.old) (O.state out.old))
-        (outside (S.state shelf.new) (O.state out.new)) }
-    ensures write_fault { result ≡ 6 → WriteFailed (request_of (texts words.now))
-        (outside (S.state shelf.old) (O.state out.old))
-        (outside (S.state shelf.new) (O.state out.new)) }
-    ensures out_fault { result ≡ 7 → OutFailed (request_of (texts words.now))
-        (outside (S.state shelf.old) (O.state out.old))
-        (outside (S.state shelf.new) (O.state out.new)) }
-    ensures memory { result ≡ 8 → LacksMemory (request_of (texts words.now))
-        (outside (S.state shelf.old) (O.state out.old))
-        (outside (S.state shelf.new) (O.state out.new)) }
-    ensures too_long { result ≡ 9 → Exceeded (request_of (texts words.now))
-        (outside (S.state shelf.old) (O.state out.old))
-        (outside (S.state shelf.new) (O.state out.new)) }
-
-    ensures no_place { result ≡ 10 → NoPlaceThere (request_of (texts words.now))
-        (outside (S.state shelf.old) (O.state out.old))
-        (outside (S.state shelf.new) (O.state out.new)) }
-    ensures scene_refused { result ≡ 11 → SceneRefused (request_of (texts words.now))
-        (outside (S.state shelf.old) (O.state out.old))
-        (outside (S.state shelf.new) (O.state out.new)) }
-    ensures journal_refused { result ≡ 12 → JournalRefused (request_of (texts words.now))
-        (outside (S.state shelf.old) (O.state out.old))
-        (outside (S.state shelf.new) (O.state out.new)) }
-    ensures full { result ≡ 13 → StoreFilled (request_of (texts words.now))
-        (outside (S.state shelf.old) (O.state out.old))
-        (outside (S.state shelf.new) (O.state out.new)) }
-    ensures dag_refused { result ≡ 14 → DagRefused (request_of (texts words.now))
-        (outside (S.state shelf.old) (O.state out.old))
-        (outside (S.state shelf.new) (O.state out.new)) }
-    ensures transcript_refused { result ≡ 15 → TranscriptRefused (request_of (texts words.now))
-        (outside (S.state shelf.old) (O.state out.old))
-        (outside (S.state shelf.new) (O.state out.new)) }
-
-    // which status must come: for words outside the grammar, and for all others over a shelf that
-    // tells its files and does not fail
-    ensures usage_comes { request_of (texts words.now) ≡ None → IsOr 1 result }
-    ensures comes { (files : Files) (v : Verdict) → (S.state shelf.old).files ≡ Some files
-        → (Rose (S.state shelf.old).faults (S.state shelf.new).faults → ⊥)
-        → JudgesWords (request_of (texts words.now)) files v
-        → MayCome (request_of (texts words.now)) v (status_for v) result }
+    ensures { Promised (texts words.now) (outside (S.state shelf.old) (O.state out.old))
+        (outside (S.state shelf.new) (O.state out.new)) result }
 {
     voxdag_gated(rt, alloc, words, shelf, out, &NoGate).status
 }
@@ -137,84 +77,9 @@ pub fn voxdag_gated<S: Shelf, O: Sink, R: Threads + Wait + Sync, G: Gate + Sync>
     out: &mut O,
     gate: &G,
 ) -> Gated
-    ensures known { IsTrue (is_status result.status) }
-
-    // what each status says
-    ensures done { result.status ≡ 0 → Finished (request_of (texts words.now)) result.ended
+    ensures { Promises (texts words.now) result.ended
         (outside (S.state shelf.old) (O.state out.old))
-        (outside (S.state shelf.new) (O.state out.new)) }
-    ensures no_world { result.status ≢ 0 → result.ended ≡ None }
-    ensures usage { result.status ≡ 1 → Unusable (request_of (texts words.now))
-        (outside (S.state shelf.old) (O.state out.old))
-        (outside (S.state shelf.new) (O.state out.new)) }
-    ensures missing { result.status ≡ 2 → Missed (request_of (texts words.now))
-        (outside (S.state shelf.old) (O.state out.old))
-        (outside (S.state shelf.new) (O.state out.new)) }
-    ensures read_fault { result.status ≡ 3 → Faulted (request_of (texts words.now))
-        (outside (S.state shelf.old) (O.state out.old))
-        (outside (S.state shelf.new) (O.state out.new)) }
-    ensures vox_refused { result.status ≡ 4 → VoxRefused (request_of (texts words.now))
-        (outside (S.state shelf.old) (O.state out.old))
-        (outside (S.state shelf.new) (O.state out.new)) }
-    ensures script_refused { result.status ≡ 5 → ScriptRefused (request_of (texts words.now))
-        (outside (S.state shelf.old) (O.state out.old))
-        (outside (S.state shelf.new) (O.state out.new)) }
-    ensures write_fault { result.status ≡ 6 → WriteFailed (request_of (texts words.now))
-        (outside (S.state shelf.old) (O.state out.old))
-        (outside (S.state shelf.new) (O.state out.new)) }
-    ensures out_fault { result.status ≡ 7 → OutFailed (request_of (texts words.now))
-        (outside (S.state shelf.old) (O.state out.old))
-        (outside (S.state shelf.new) (O.state out.new)) }
-    ensures memory { result.status ≡ 8 → LacksMemory (request_of (texts words.now))
-        (outside (S.state shelf.old) (O.state out.old))
-        (outside (S.state shelf.new) (O.state out.new)) }
-    ensures too_long { result.status ≡ 9 → Exceeded (request_of (texts words.now))
-        (outside (S.state shelf.old) (O.state out.old))
-        (outside (S.state shelf.new) (O.state out.new)) }
-    ensures no_place { result.status ≡ 10 → NoPlaceThere (request_of (texts words.now))
-        (outside (S.state shelf.old) (O.state out.old))
-        (outside (S.state shelf.new) (O.state out.new)) }
-    ensures scene_refused { result.status ≡ 11 → SceneRefused (request_of (texts words.now))
-        (outside (S.state shelf.old) (O.state out.old))
-        (outside (S.state shelf.new) (O.state out.new)) }
-    ensures journal_refused { result.status ≡ 12 → JournalRefused (request_of (texts words.now))
-        (outside (S.state shelf.old) (O.state out.old))
-        (outside (S.state shelf.new) (O.state out.new)) }
-    ensures full { result.status ≡ 13 → StoreFilled (request_of (texts words.now))
-        (outside (S.state shelf.old) (O.state out.old))
-        (outside (S.state shelf.new) (O.state out.new)) }
-    ensures dag_refused { result.status ≡ 14 → DagRefused (request_of (texts words.now))
-        (outside (S.state shelf.old) (O.state out.old))
-        (outside (S.state shelf.new) (O.state out.new)) }
-    ensures transcript_refused { result.status ≡ 15 → TranscriptRefused
-        (request_of (texts words.now))
-        (outside (S.state shelf.old) (O.state out.old))
-        (outside (S.state shelf.new) (O.state out.new)) }
-
-    // which status must come: for words outside the grammar, and for all others over a shelf that
-    // tells its files and does not fail
-    ensures usage_comes { request_of (texts words.now) ≡ None → IsOr 1 result.status }
-    ensures comes { (files : Files) (v : Verdict) → (S.state shelf.old).files ≡ Some files
-        → (Rose (S.state shelf.old).faults (S.state shelf.new).faults → ⊥)
-        → JudgesWords (request_of (texts words.now)) files v
-        → MayCome (request_of (texts words.now)) v (status_for v) result.status }
-{
-    answer(rt, gate, alloc, words, shelf, out)
-}
-
-// Does what the words ask for, and puts its line.
-#[tactic(auto, using(crate::proofs::Lacking::lacks))]
-fn answer<S: Shelf, O: Sink, R: Threads + Wait + Sync, G: Gate + Sync>(
-    rt: &R,
-    gate: &G,
-    alloc: Global,
-    words: &[String],
-    shelf: &mut S,
-    out: &mut O,
-) -> Gated
-    ensures { Runs (request_of (texts words.now))
-        (outside (S.state shelf.old) (O.state out.old))
-        (outside (S.state shelf.new) (O.state out.new)) result.status result.ended }
+        (outside (S.state shelf.new) (O.state out.new)) result.status }
 {
     let lacking = Ending::Refused(CommandRefused::Text(TextRefused::Memory));
     match words_of_a_run(alloc, words) {

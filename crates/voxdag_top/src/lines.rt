@@ -1,6 +1,7 @@
 ghost use Rattle.std.specs.Prelude.{◌≡◌, ◌≤◌, ◌<◌, ◌^◌, ◌+◌, ◌∷◌, ◌++◌, [], OnOk, All, length, map, codes, IfOk, IsOkAnd, IfSome, OnErr, string_bytes, string_capacity};
 ghost use Rattle.script.specs.Faults.{number_of_kind};
 ghost use Rattle.voxdag_top.specs.Lines.{done_line, run_line, demo_lines, placed_line, looked_line, answer_line, region_lines, script_line, input_line, output_line, write_fault_line};
+ghost use Rattle.voxdag_top.specs.Numbers.{status_number};
 ghost use Rattle.voxdag_top.specs.Endings.{ended_with, ending_line, refused_line, text_line, status_of, refused_status, MayLackLine, RefusalMayLackLine, WriteMayLackLine};
 ghost use Rattle.script_files.specs.Refusals.{output_name, IsOutputName};
 ghost use Rattle.script_files.specs.Requests.{transcript_name};
@@ -64,7 +65,7 @@ fn put_line<O: Sink>(line: &[u8], status: u8, out: &mut O) -> u8
 }
 
 fn status(ending: &Ending<'_>) -> u8
-    ensures { result ≡ status_of ending.now }
+    ensures { result ≡ status_number (status_of ending.now) }
 {
     match ending {
         Ending::Completed(_) => 0,
@@ -74,7 +75,7 @@ fn status(ending: &Ending<'_>) -> u8
 }
 
 fn refused_status(refused: &CommandRefused<'_>) -> u8
-    ensures { result ≡ refused_status refused.now }
+    ensures { result ≡ status_number (refused_status refused.now) }
 {
     match refused {
         CommandRefused::Input(input) => match input.why {

@@ -39,9 +39,10 @@ parted xs x d k within at =
 pub stops_at : (why : ReadRefused) (name : List ℕ) (files mid : Option Files)
     (inputs : List WantedInput) (input : WantedInput) (k : ℕ) (texts : List (List ℕ))
     (faults calm risen : ℕ) → k < length inputs → input ≡ get_or inputs k input
-    → name ≡ input.name → mid ≡ files → calm ≡ faults → AreTaken files (take k inputs) texts
-    → RefusesInput why mid input calm risen → StopsAt why name inputs files faults risen
-stops_at why name files mid inputs input k texts faults calm risen within at named same none taken refuses =
+    → name ≡ input.name → mid ≡ files → faults ≤ calm → AreTaken files (take k inputs) texts
+    → RefusesInput why mid input calm risen → calm ≤ risen
+    → StopsAt why name inputs files faults risen
+stops_at why name files mid inputs input k texts faults calm risen within at named same grown taken refuses behind =
     record {
       input = input;
       named = named;
@@ -53,8 +54,10 @@ stops_at why name files mid inputs input k texts faults calm risen within at nam
         texts = texts;
         taken = taken;
       };
-      cause = subst (λ (f : Option Files). RefusesInput why f input faults risen) same
-          (subst (λ (n : ℕ). RefusesInput why mid input n risen) none refuses);
+      at_read = calm;
+      before = grown;
+      cause = subst (λ (f : Option Files). RefusesInput why f input calm risen) same refuses;
+      behind = behind;
     }
 
 -- after the last input

@@ -1,5 +1,5 @@
 -- One output after the other.
-use Rattle.std.proofs.Common.{◌≡◌, ◌≢◌, ℕ, ◌+◌, ◌<◌, ◌≤◌, List, [], ◌∷◌, ◌++◌, length, take, drop, get_or, Bool, true, false, Option, Some, None, Ok, Err, refl, sym, ap, subst, ◌∙◌, if◌then◌else◌, take_all}
+use Rattle.std.proofs.Common.{◌≡◌, ◌≢◌, ℕ, ◌+◌, ◌<◌, ◌≤◌, List, [], ◌∷◌, ◌++◌, length, take, drop, get_or, Bool, true, false, Option, Some, None, Ok, Err, refl, sym, ap, subst, ◌∙◌, if◌then◌else◌, take_all, arith}
 use Rattle.std.proofs.lemmas.List.{take_more, take-append-drop}
 use Rattle.std.specs.Str.{bytes_eq}
 use Rattle.std.proofs.lemmas.Slice.Eq.{bytes_eq-Decides}
@@ -71,14 +71,19 @@ next_written outputs output d k old between new done within at first told =
     subst (λ (os : List Named). AreWritten os old new) (sym more)
     (one_more (take k outputs) output old between new done first told)
 
+-- a count that rose since a time had risen since an earlier one
+pub rose_since : (earlier faults risen : ℕ) → earlier ≤ faults → Rose faults risen
+    → Rose earlier risen
+rose_since earlier faults risen grown rose = omega (arith, grown, rose)
+
 -- an output's write was refused after those before it
 pub stops_with : (why : WriteRefused) (name : List ℕ) (outputs : List Named) (output d : Named)
     (k : ℕ) (old between new : Option Files) (faults calm risen : ℕ) → k < length outputs
     → output ≡ get_or outputs k d
-    → name ≡ output.name → calm ≡ faults → AreWritten (take k outputs) old between
+    → name ≡ output.name → faults ≤ calm → AreWritten (take k outputs) old between
     → WriteTold between new output.name output.bytes (Err why) → WriteCause (Err why) calm risen
-    → StopsWith why name outputs old new faults risen
-stops_with Failed name outputs output d k old between new faults calm risen within at named none whole told cause = (
+    → calm ≤ risen → StopsWith why name outputs old new faults risen
+stops_with Failed name outputs output d k old between new faults calm risen within at named grown whole told cause behind = (
   record {
     output = output;
     named = named;
@@ -89,16 +94,16 @@ stops_with Failed name outputs output d k old between new faults calm risen with
     whole = whole;
     left = told;
   },
-  subst (λ (n : ℕ). Rose n risen) none cause,
+  rose_since faults calm risen grown cause,
 )
-stops_with Memory name outputs output d k old between new faults calm risen within at named none whole told cause = (
+stops_with Memory name outputs output d k old between new faults calm risen within at named grown whole told cause behind = (
   record {
     first = take k outputs;
     others = drop k outputs;
     parts = sym (take-append-drop k outputs);
     whole = kept_told (take k outputs) old between new output.name output.bytes whole told;
   },
-  cause ∙ none,
+  omega (arith, grown, behind),
 )
 
 pub all_written : (outputs : List Named) (k : ℕ) (old new : Option Files) → length outputs ≤ k

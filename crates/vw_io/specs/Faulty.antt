@@ -7,7 +7,7 @@ use Rattle.vw_io.specs.declared.shelves.WriteRefused.TheVariants as writes
 use Rattle.vw_io.specs.declared.sinks.PutRefused.{PutRefused}
 use Rattle.vw_io.specs.declared.sinks.PutRefused.TheVariants as puts
 use Rattle.vw_io.specs.Outside.{Files, SameElsewhere}
-use Rattle.vw_io.specs.System.{most_faults}
+use Rattle.vw_io.specs.System.{most_faults, faults_after_read, faults_after_write, faults_after_put}
 
 -- the number of the next call, where so many were made
 abbrev pub next_call : ℕ → ℕ
@@ -50,3 +50,16 @@ FailsPut None old new bytes (Ok done) = ⊤
 FailsPut None old new bytes (Err puts.Failed) = ⊥
 FailsPut None old new bytes (Err puts.Memory) = ⊤
 FailsPut (Some passes) old new bytes result = PutsFirst passes old new bytes result
+
+-- the count of faults after a read, after a write and after a put: it rises where they fail alone
+abbrev pub CountsRead : Result (Unit {0}) ReadRefused → ℕ → ℕ → Type 0
+CountsRead (Ok done) before now = now ≡ before
+CountsRead (Err refused) before now = now ≡ faults_after_read refused before
+
+abbrev pub CountsWrite : Result (Unit {0}) WriteRefused → ℕ → ℕ → Type 0
+CountsWrite (Ok done) before now = now ≡ before
+CountsWrite (Err refused) before now = now ≡ faults_after_write refused before
+
+abbrev pub CountsPut : Result (Unit {0}) PutRefused → ℕ → ℕ → Type 0
+CountsPut (Ok done) before now = now ≡ before
+CountsPut (Err refused) before now = now ≡ faults_after_put refused before

@@ -52,15 +52,19 @@ RefusesInput Missing files input faults risen = NoFile files input.name × Staye
 RefusesInput TooLong files input faults risen =
     FileIsOver files input.name input.limit × Stayed faults risen
 RefusesInput Failed files input faults risen = Rose faults risen
-RefusesInput Memory files input faults risen = risen ≡ faults
+RefusesInput Memory files input faults risen = ⊤
 
--- the first input that was not taken has this name
+-- the first input that was not taken has this name, and the count of faults was `at_read` as its
+-- read began
 pub record StopsAt (why : ReadRefused) (name : List ℕ) (inputs : List WantedInput)
     (files : Option Files) (faults risen : ℕ) : Type 0 where
   pub input : WantedInput
   pub named : name ≡ input.name
   pub reached : GetsTo files inputs input
-  pub cause : RefusesInput why files input faults risen
+  pub at_read : ℕ
+  pub before : faults ≤ at_read
+  pub cause : RefusesInput why files input at_read risen
+  pub behind : at_read ≤ risen
 
 -- one more input was taken, and its bytes stand behind those before it
 pub record KeepsText (files : Option Files) (input : WantedInput)

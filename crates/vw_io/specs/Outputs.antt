@@ -1,5 +1,5 @@
 -- Outputs that are written one after the other, and what stands on the shelf afterwards.
-use Rattle.std.specs.Prelude.{◌≡◌, ℕ, List, [], ◌∷◌, ◌++◌, Option, Some, None, Err, if◌then◌else◌}
+use Rattle.std.specs.Prelude.{◌≡◌, ◌≤◌, ℕ, List, [], ◌∷◌, ◌++◌, Option, Some, None, Err, if◌then◌else◌}
 use Rattle.std.specs.Str.{bytes_eq}
 use Rattle.vw_io.specs.declared.shelves.WriteRefused.{WriteRefused}
 use Rattle.vw_io.specs.declared.shelves.WriteRefused.TheVariants.{Failed, Memory}
@@ -51,4 +51,4 @@ abbrev pub StopsWith : WriteRefused → List ℕ → List Named → Option Files
     → Type 0
 StopsWith Failed name outputs old new faults risen =
     BreaksAt name outputs old new × Rose faults risen
-StopsWith Memory name outputs old new faults risen = ArePrefix outputs old new × (risen ≡ faults)
+StopsWith Memory name outputs old new faults risen = ArePrefix outputs old new × (faults ≤ risen)

@@ -23,6 +23,11 @@ pub record ShelfState : Type 0 where
   pub files : Option Files
   pub faults : ℕ
 
+-- the shelf has the files that it had, and its count didn't fall
+pub record KeepsFiles (old new : ShelfState) : Type 0 where
+  pub files : new.files ≡ old.files
+  pub never_falls : old.faults ≤ new.faults
+
 -- a sink: the bytes put so far, where it tells them, and how often it has failed
 pub record SinkState : Type 0 where
   pub told : Option (List ℕ)

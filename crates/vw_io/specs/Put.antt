@@ -1,5 +1,5 @@
 -- What a sink has after bytes were put, one case for each answer.
-use Rattle.std.specs.Prelude.{◌≡◌, ℕ, List, ◌++◌, take, Option, None, Some, Result, Ok, Err}
+use Rattle.std.specs.Prelude.{◌≡◌, ℕ, List, ◌++◌, take, Option, None, Some, Result, Ok, Err, ⊤}
 use Rattle.vw_io.specs.declared.sinks.PutRefused.{PutRefused}
 use Rattle.vw_io.specs.declared.sinks.PutRefused.TheVariants.{Failed, Memory}
 use Rattle.vw_io.specs.Outside.{Rose}
@@ -23,8 +23,8 @@ PutTold None now bytes result = now ≡ None
 PutTold (Some before) None bytes result = ⊥
 PutTold (Some before) (Some now) bytes result = PutLeaves before now bytes result
 
--- what the count of faults did
+-- what the count of faults, which never falls, did besides
 abbrev pub PutCause : Result (Unit {0}) PutRefused → ℕ → ℕ → Type 0
-PutCause (Ok _) before now = now ≡ before
+PutCause (Ok _) before now = ⊤
 PutCause (Err Failed) before now = Rose before now
-PutCause (Err Memory) before now = now ≡ before
+PutCause (Err Memory) before now = ⊤

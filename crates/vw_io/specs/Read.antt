@@ -17,10 +17,10 @@ abbrev pub ReadTold : Option Files → List ℕ → ℕ → Result (Unit {0}) Re
 ReadTold None name limit result bytes = ⊤
 ReadTold (Some files) name limit result bytes = ReadFits files name limit result bytes
 
--- what the count of faults did
+-- what the count of faults, which never falls, did besides
 abbrev pub ReadCause : Result (Unit {0}) ReadRefused → ℕ → ℕ → Type 0
-ReadCause (Ok _) before now = now ≡ before
+ReadCause (Ok _) before now = ⊤
 ReadCause (Err Missing) before now = Stayed before now
 ReadCause (Err TooLong) before now = Stayed before now
 ReadCause (Err Failed) before now = Rose before now
-ReadCause (Err Memory) before now = now ≡ before
+ReadCause (Err Memory) before now = ⊤

@@ -1,5 +1,5 @@
 -- What a write to a shelf does, one case for each answer.
-use Rattle.std.specs.Prelude.{◌≡◌, ℕ, List, Option, None, Some, IsSomeAnd, Result, Ok, Err, ◌⊎◌}
+use Rattle.std.specs.Prelude.{◌≡◌, ℕ, List, Option, None, Some, IsSomeAnd, Result, Ok, Err, ◌⊎◌, ⊤}
 use Rattle.std.specs.Io.{StartsWith}
 use Rattle.vw_io.specs.declared.shelves.WriteRefused.{WriteRefused}
 use Rattle.vw_io.specs.declared.shelves.WriteRefused.TheVariants.{Failed, Memory}
@@ -24,8 +24,8 @@ WriteTold None now name bytes result = now ≡ None
 WriteTold (Some before) None name bytes result = ⊥
 WriteTold (Some before) (Some now) name bytes result = WriteLeaves before now name bytes result
 
--- what the count of faults did
+-- what the count of faults, which never falls, did besides
 abbrev pub WriteCause : Result (Unit {0}) WriteRefused → ℕ → ℕ → Type 0
-WriteCause (Ok _) before now = now ≡ before
+WriteCause (Ok _) before now = ⊤
 WriteCause (Err Failed) before now = Rose before now
-WriteCause (Err Memory) before now = now ≡ before
+WriteCause (Err Memory) before now = ⊤

@@ -1,6 +1,6 @@
 //! A shelf in memory whose calls fail as they are told to.
 ghost use Rattle.std.specs.Prelude.{◌≡◌, ◌≤◌, [], Some, Option, length, OnOk, OnErr};
-ghost use Rattle.vw_io.specs.Faulty.{next_call, passing, FailsRead, FailsWrite};
+ghost use Rattle.vw_io.specs.Faulty.{next_call, passing, FailsRead, FailsWrite, CountsRead, CountsWrite};
 ghost use Rattle.vw_io.specs.Memory.{files_of};
 ghost use Rattle.vw_io.specs.Read.{ReadTold, ReadCause};
 ghost use Rattle.vw_io.specs.Write.{WriteTold, WriteCause};
@@ -63,6 +63,7 @@ impl Shelf for FaultyShelf {
 
         ensures fails { FailsRead (passing self.old.fails.items (next_call self.old.calls))
             self.old.faults result }
+        ensures counts { CountsRead result self.old.faults self.new.faults }
         ensures counted { self.new.calls ≡ next_call self.old.calls }
         ensures same_fails { self.new.fails.items ≡ self.old.fails.items }
     {
@@ -87,6 +88,7 @@ impl Shelf for FaultyShelf {
 
         ensures fails { FailsWrite (passing self.old.fails.items (next_call self.old.calls))
             (files_of self.old.inner) (files_of self.new.inner) name.now bytes.now result }
+        ensures counts { CountsWrite result self.old.faults self.new.faults }
         ensures counted { self.new.calls ≡ next_call self.old.calls }
         ensures same_fails { self.new.fails.items ≡ self.old.fails.items }
     {

@@ -1,6 +1,6 @@
 //! A sink in memory whose puts fail as they are told to.
 ghost use Rattle.std.specs.Prelude.{◌≡◌, ◌≤◌, [], Some, Option};
-ghost use Rattle.vw_io.specs.Faulty.{next_call, passing, FailsPut};
+ghost use Rattle.vw_io.specs.Faulty.{next_call, passing, FailsPut, CountsPut};
 ghost use Rattle.vw_io.specs.Put.{PutTold, PutCause};
 
 use crate::faults::count_put;
@@ -53,6 +53,7 @@ impl Sink for FaultySink {
 
         ensures fails { FailsPut (passing self.old.fails.items (next_call self.old.calls))
             self.old.sent.items self.new.sent.items bytes.now result }
+        ensures counts { CountsPut result self.old.faults self.new.faults }
         ensures counted { self.new.calls ≡ next_call self.old.calls }
         ensures same_fails { self.new.fails.items ≡ self.old.fails.items }
     {

@@ -1,4 +1,4 @@
-ghost use Rattle.std.specs.Prelude.{◌≡◌, ℕ, List, length, IfOk, IfErr, OnOk};
+ghost use Rattle.std.specs.Prelude.{◌≡◌, ◌≤◌, ℕ, List, length, IfOk, IfErr, OnOk};
 ghost use Rattle.vw_io.specs.Inputs.{WantedInput, AreTaken, KeepsText, StopsAt, RefusesInput};
 
 use crate::shelves::{ReadRefused, Shelf};
@@ -68,7 +68,7 @@ pub fn read_all<'w, S: Shelf>(
     ensures refused { IfErr result (λ refused. StopsAt refused.why refused.name.now inputs.now
         (S.state shelf.old).files (S.state shelf.old).faults (S.state shelf.new).faults) }
     ensures unchanged { (S.state shelf.new).files ≡ (S.state shelf.old).files }
-    ensures calm { OnOk result ((S.state shelf.new).faults ≡ (S.state shelf.old).faults) }
+    ensures never_falls { (S.state shelf.old).faults ≤ (S.state shelf.new).faults }
 {
     let mut texts = Vec::new(alloc);
     for input in inputs {
@@ -97,7 +97,7 @@ fn read_next<S: Shelf>(
     ensures refused { IfErr result (λ why. RefusesInput why (S.state shelf.old).files input.now
         (S.state shelf.old).faults (S.state shelf.new).faults) }
     ensures unchanged { (S.state shelf.new).files ≡ (S.state shelf.old).files }
-    ensures calm { OnOk result ((S.state shelf.new).faults ≡ (S.state shelf.old).faults) }
+    ensures never_falls { (S.state shelf.old).faults ≤ (S.state shelf.new).faults }
 {
     let mut bytes = Vec::new(alloc);
     shelf.read(input.name, input.limit, &mut bytes)?;

@@ -1,4 +1,4 @@
-ghost use Rattle.std.specs.Prelude.{◌≡◌, IfErr, OnOk};
+ghost use Rattle.std.specs.Prelude.{◌≡◌, ◌≤◌, IfErr, OnOk};
 ghost use Rattle.vw_io.specs.Outputs.{Named, AreWritten, StopsWith};
 
 use crate::shelves::{Shelf, WriteRefused};
@@ -32,7 +32,7 @@ pub fn write_all<'w, 't, S: Shelf>(
 ) -> Result<(), OutputRefused<'w>>
     ensures whole { OnOk result
         (AreWritten outputs.now (S.state shelf.old).files (S.state shelf.new).files) }
-    ensures calm { OnOk result ((S.state shelf.new).faults ≡ (S.state shelf.old).faults) }
+    ensures never_falls { (S.state shelf.old).faults ≤ (S.state shelf.new).faults }
     ensures refused { IfErr result (λ refused. StopsWith refused.why refused.name.now outputs.now
         (S.state shelf.old).files (S.state shelf.new).files (S.state shelf.old).faults
         (S.state shelf.new).faults) }

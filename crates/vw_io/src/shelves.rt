@@ -73,8 +73,10 @@ impl<T: Drop> From<AllocFailed<T>> for WriteRefused {
 /// Files by name. `Memory` may come at any call, and each other answer has its cause in the files
 /// or in a fault of the shelf.
 ///
-/// The count of faults rises at a fault and at nothing else. Where it already stands at the last
-/// value of a `u64`, `Missing` and `TooLong` never come: such a call answers `Failed`.
+/// The count of faults never falls. It rises where a call answers `Failed`, and doesn't where a
+/// read answers `Missing` or `TooLong`; an `Ok` and `Memory` say nothing of it. Where it already
+/// stands at the last value of a `u64`, `Missing` and `TooLong` never come: such a call answers
+/// `Failed`.
 pub trait Shelf {
     ghost use Rattle.vw_io.specs.Outside.{ShelfState};
     ghost use Rattle.vw_io.specs.Read.{ReadTold, ReadCause};

@@ -25,7 +25,7 @@ impl From<AllocError> for PutRefused {
 }
 
 /// A place that takes bytes one after another. `Memory` may come at any call. The count of faults
-/// rises at a fault of the sink and at nothing else.
+/// never falls, and rises where a call answers `Failed`; an `Ok` and `Memory` say nothing of it.
 pub trait Sink {
     ghost use Rattle.vw_io.specs.Outside.{SinkState};
     ghost use Rattle.vw_io.specs.Put.{PutTold, PutCause};

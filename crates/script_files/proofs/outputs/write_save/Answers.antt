@@ -18,7 +18,7 @@ returns-in-Ok-clause-writes g c =
     c.as_slice.result.now old new c.in-Ok.field-0 at.at
     (c.as_slice.ensures.value ∙ c.in_ok-file.ensures.file s at.at)
     (subst (λ (n : List ℕ). WriteTold old.files new.files n c.as_slice.result.now
-    (Ok c.in-Ok.field-0)) c.as_str.ensures c.in-Ok.ensures.told) c.in-Ok.ensures.cause
+    (Ok c.in-Ok.field-0)) c.as_str.ensures c.in-Ok.ensures.told) c.in-Ok.ensures.never_falls
 
 pub returns-clause-writes : goal.returns-clause-writes
 returns-clause-writes g c =
@@ -32,4 +32,4 @@ returns-clause-writes g c =
     c.as_slice.result.now old new c.in-Err.why at.at
     (c.as_slice.ensures.value ∙ c.in_ok-file.ensures.file s at.at)
     (subst (λ (n : List ℕ). WriteTold old.files new.files n c.as_slice.result.now
-    (Err c.in-Err.why)) c.as_str.ensures c.in-Err.ensures.told) c.in-Err.ensures.cause
+    (Err c.in-Err.why)) c.as_str.ensures c.in-Err.ensures.told) c.in-Err.ensures.cause c.in-Err.ensures.never_falls

@@ -1,4 +1,4 @@
-use Rattle.std.proofs.Common.{rules, ◌≡◌, ℕ, Bool, List, ap, subst}
+use Rattle.std.proofs.Common.{rules, ◌≡◌, ◌≤◌, ℕ, Bool, List, ap, subst}
 use Rattle.vw_io.specs.Inputs.{AreTaken}
 use Rattle.node_words.specs.Plans.{Layout}
 use Rattle.conformance.specs.sessions.Kept.{kept_of}
@@ -43,11 +43,12 @@ returns-in-Ok-write_run-clause-outcome g c =
     search rules in
     let kept : run.run.kept ≡ kept_of read.scripts.items run.transcripts.items run.run.sessions =
     search rules in
-    let same : mid ≡ old = search rules in
+    let same : mid.files ≡ old.files = search rules in
+    let grown : old.faults ≤ mid.faults = search rules in
     let wrote : WroteRun asked run c.in-Ok-write_run.written.tally c.in-Ok-write_run.written.ended
     mid new = search rules in
     run_written asked texts read run old mid new taken is_read asked_ran plan_is tint_is
-    models_are kept fits same c.in-Ok-write_run.written.tally c.in-Ok-write_run.written.ended wrote
+    models_are kept fits same grown c.in-Ok-write_run.written.tally c.in-Ok-write_run.written.ended wrote
 
 pub returns-clause-outcome : goal.returns-clause-outcome
 returns-clause-outcome g c =
@@ -79,7 +80,8 @@ returns-clause-outcome g c =
     search rules in
     let kept : run.run.kept ≡ kept_of read.scripts.items run.transcripts.items run.run.sessions =
     search rules in
-    let same : mid ≡ old = search rules in
+    let same : mid.files ≡ old.files = search rules in
+    let grown : old.faults ≤ mid.faults = search rules in
     let stopped : StopsRun asked run c.in-Err-write_run.refused mid new = search rules in
     run_stopped asked texts read run old mid new taken is_read asked_ran plan_is tint_is
-    models_are kept fits same c.in-Err-write_run.refused stopped
+    models_are kept fits same grown c.in-Err-write_run.refused stopped

@@ -1,4 +1,4 @@
-use Rattle.std.proofs.Common.{rules, ◌≡◌, get_or, refl, ◌∙◌}
+use Rattle.std.proofs.Common.{rules, ◌≡◌, get_or, refl, ◌∙◌, arith}
 use Rattle.vw_io.specs.Outputs.{Named}
 use Rattle.vw_io.proofs.Written.{next_written, stops_with}
 use Rattle.vw_io.proofs.outputs.write_all.Goals as goal
@@ -9,7 +9,7 @@ returns-in-Err-clause-refused g c =
     let seen : Named =
     record { name = c.output.inside.name.now; bytes = c.output.inside.bytes.now } in
     stops_with c.in-Err.why c.output.inside.name.now c.args.outputs.now seen c.output-item.result c.loop-output.output-index _ _ _ _ _ _ c.loop-output-test.true (c.output.view_is ∙ at)
-    refl c.loop-output.invariant.calm c.loop-output.invariant.whole c.in-Err.ensures.told c.in-Err.ensures.cause
+    refl c.loop-output.invariant.grown c.loop-output.invariant.whole c.in-Err.ensures.told c.in-Err.ensures.cause c.in-Err.ensures.never_falls
 
 pub loop-output-preserved : goal.loop-output-preserved
 loop-output-preserved g c =
@@ -18,5 +18,6 @@ loop-output-preserved g c =
     record { name = c.output.inside.name.now; bytes = c.output.inside.bytes.now } in
     record {
       whole = next_written c.args.outputs.now seen c.output-item.result c.loop-output.output-index _ _ _ _ c.loop-output-test.true (c.output.view_is ∙ at) c.loop-output.invariant.whole c.in-Ok.ensures.told;
-      calm = search rules;
+      grown =
+          (let first = c.loop-output.invariant.grown in let more = c.in-Ok.ensures.never_falls in omega (arith, first, more));
     }

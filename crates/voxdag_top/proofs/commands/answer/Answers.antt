@@ -1,9 +1,0 @@
-use Rattle.requests.specs.command_line.Texts.{texts}
-use Rattle.voxdag_top.specs.Words.{request_of}
-use Rattle.voxdag_top.proofs.Lacking.{lacks}
-use Rattle.voxdag_top.proofs.commands.answer.Goals as goal
-
-pub returns-in-Err : goal.returns-in-Err
-returns-in-Err g c =
-    lacks (request_of (texts c.args.words.now)) (g.S.Shelf.state c.args.shelf.now) _ _ _ _
-    c.finish.ensures.line c.finish.ensures.ended
