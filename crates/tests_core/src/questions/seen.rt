@@ -141,7 +141,7 @@ fn boxes_show_these_cells(rt: HostRuntime) -> Result<(), Fail> {
 enum Edit {
     Set,
     Clear,
-    CopyTo([u16; 3]),
+    CopyTo(u16, u16, u16),
 }
 
 /// Boxes that are set in a world of side 64, an edit of a box, and the least box of what it changes.
@@ -165,7 +165,7 @@ const CHANGES: &[(&[[u16; 6]], Edit, [u16; 6], Option<[u16; 6]>)] = &[
     // a copy far away
     (
         &[[1, 1, 1, 2, 1, 1]],
-        Edit::CopyTo([40, 48, 56]),
+        Edit::CopyTo(40, 48, 56),
         [0, 0, 0, 4, 4, 4],
         Some([41, 49, 57, 2, 1, 1]),
     ),
@@ -182,7 +182,7 @@ fn act_of(edit: Edit, b: Boxed) -> Act {
     match edit {
         Edit::Set => Act::Fill(b),
         Edit::Clear => Act::Erase(b),
-        Edit::CopyTo([x, y, z]) => Act::Copy(b, Cell { x, y, z }),
+        Edit::CopyTo(x, y, z) => Act::Copy(b, Cell { x, y, z }),
     }
 }
 
