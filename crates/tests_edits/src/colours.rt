@@ -4,6 +4,8 @@
 #[cfg(test)]
 mod asking;
 #[cfg(test)]
+mod crowds;
+#[cfg(test)]
 mod tests;
 #[cfg(test)]
 mod worlds;

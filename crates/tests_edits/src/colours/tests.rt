@@ -66,7 +66,8 @@ fn first_stencil(alloc: Global, models: &Models) -> Option<TintStencil>
     }
 }
 
-fn small_stencil(alloc: Global) -> Result<TintStencil, Fail> {
+/// The stencil of that model.
+pub fn small_stencil(alloc: Global) -> Result<TintStencil, Fail> {
     let models = drawn_models(alloc).ok_or("models")?;
     Ok(first_stencil(alloc, &models).ok_or("a stencil")?)
 }
