@@ -23,8 +23,8 @@ fallen_back-kept-requires-clause-room g c =
     fell_few _ _ _ _ _ _ _ made
     (gone_whole _ _ _ c.requires.holds _ _ _ _ _ refl made.appends)
 
-pub returns-in-Ok-clause-holds : goal.returns-in-Ok-clause-holds
-returns-in-Ok-clause-holds g c =
+pub returns-in-Ok : goal.returns-in-Ok
+returns-in-Ok g c =
     let made = c.in-Ok.ensures.commits in
     fallen_none _ _ _ c.requires.holds _ c.fallen_back-kept.ensures.of
     c.fallen_back-kept.ensures.idle
