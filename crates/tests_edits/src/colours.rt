@@ -1,5 +1,5 @@
-//! Tests of tinted acts over a store, and of what such a store tells. It holds tests alone, over the
-//! store for one thread.
+//! Tests of tinted acts over a store, and of what such a store tells. It holds tests alone, over
+//! the store for one thread.
 
 #[cfg(test)]
 mod asking;

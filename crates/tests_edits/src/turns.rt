@@ -222,8 +222,8 @@ fn most_turns(at: [u16; 3], size: [u16; 3]) -> u64 {
 /// At most so many turns where nearly all blocks are like one that was made before.
 const ALIKE: u64 = 4999;
 
-/// Boxes of a world of side 4,096, and how many turns each may take: 25 a level for the whole world,
-/// and twice that for one cell.
+/// Boxes of a world of side 4,096, and how many turns each may take: 25 a level for the whole
+/// world, and twice that for one cell.
 const LARGE: &[([u16; 3], [u16; 3], u64)] = &[
     ([0, 0, 0], [4096, 4096, 4096], 275),
     ([1, 1, 1], [4095, 4095, 4095], ALIKE),

@@ -159,7 +159,8 @@ module _ (t : TableSeen) (s : PassSeen) (root : Option Name) (h : HoldsUniform t
   here : s.view.plan.side ≡ 2
   here = ap (λ p. p.side) h.of.plan ∙ h.side
 
-  pub made_act : {made : ℕ} (u : SeatView) (act : Act) → TakesLog made s.view u → act ≡ uniform_act root
+  pub made_act : {made : ℕ} (u : SeatView) (act : Act) → TakesLog made s.view u
+      → act ≡ uniform_act root
       → IsMadeNow u act root
   made_act u act takes is =
       let side = ap (λ (x : SeatView). x.plan.side) takes.is ∙ here in
@@ -481,7 +482,8 @@ kept_root v w root n k h =
 
 -- ---- the first cell, over a version of no set cell
 
-no_cells_of : (tree : Tree) → root_of tree ≡ None → (x y z : ℕ) → has 0 (shape_of tree) x y z ≡ false
+no_cells_of : (tree : Tree) → root_of tree ≡ None → (x y z : ℕ)
+    → has 0 (shape_of tree) x y z ≡ false
 unfolding shape_of
 no_cells_of Gone none x y z = has-clear 0 x y z
 no_cells_of (LeafAt n bits) none x y z = absurd (let no : ⊥ = cc in no)

@@ -57,8 +57,8 @@ impl TintWorld {
         lives(&self.store, self.side)
     }
 
-    /// Does the act to the world, or leaves it as it is. Told is how many nodes of each of the first
-    /// four levels are live while the world before stands too.
+    /// Does the act to the world, or leaves it as it is. Told is how many nodes of each of the
+    /// first four levels are live while the world before stands too.
     pub fn edit(
         &mut self,
         act: &TintAct,
