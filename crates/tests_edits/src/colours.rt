@@ -1,8 +1,10 @@
-//! Tests of tinted acts over a store, and of what such a store tells. It holds tests alone, over the
-//! store for one thread.
+//! Tests of tinted acts over a store, and of what such a store tells. It holds tests alone, over
+//! the store for one thread.
 
 #[cfg(test)]
 mod asking;
+#[cfg(test)]
+mod crowds;
 #[cfg(test)]
 mod tests;
 #[cfg(test)]

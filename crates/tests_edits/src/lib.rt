@@ -7,6 +7,8 @@ mod acts;
 #[cfg(test)]
 mod colours;
 #[cfg(test)]
+mod crowds;
+#[cfg(test)]
 mod edit_tests;
 #[cfg(test)]
 mod edited;

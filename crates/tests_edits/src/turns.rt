@@ -184,31 +184,65 @@ fn turns_of(alloc: Global, at: [u16; 3], size: [u16; 3]) -> Option<u32> {
     }
 }
 
-// Whether the box takes so many turns at most.
-fn takes_at_most(alloc: Global, at: [u16; 3], size: [u16; 3], most: u32) -> bool {
-    match turns_of(alloc, at, size) {
-        Some(turns) => turns <= most,
-        None => false,
-    }
+// How many blocks of so many cells a side meet a stretch, and how many lie in it.
+fn stretch_blocks(at: u16, size: u16, side: u32) -> (u64, u64) {
+    let from = u32::from(at);
+    let end = from.saturating_add(u32::from(size));
+    let side = side.max(1);
+    let met = end.div_ceil(side).saturating_sub(from / side);
+    let inside = (end / side).saturating_sub(from.div_ceil(side));
+    (u64::from(met), u64::from(inside))
 }
 
-/// Boxes of a world of side 4,096, and at most how many turns it takes to fill each.
-const LARGE: &[([u16; 3], [u16; 3], u32)] = &[
-    ([0, 0, 0], [4096, 4096, 4096], 299),
-    ([1, 1, 1], [4095, 4095, 4095], 4999),
-    ([0, 0, 0], [4095, 4095, 4095], 4999),
-    ([1, 1, 1], [4094, 4094, 4094], 4999),
-    ([1, 3, 5], [4094, 4001, 4000], 4999),
-    ([5, 0, 77], [1, 4095, 3001], 4999),
-    ([1, 2, 3], [1, 1, 1], 4999),
+// How many blocks of so many cells a side meet the box without lying in it.
+fn partly(at: [u16; 3], size: [u16; 3], side: u32) -> u64 {
+    let (x, in_x) = stretch_blocks(at[0], size[0], side);
+    let (y, in_y) = stretch_blocks(at[1], size[1], side);
+    let (z, in_z) = stretch_blocks(at[2], size[2], side);
+    let met = x.saturating_mul(y).saturating_mul(z);
+    met.saturating_sub(in_x.saturating_mul(in_y).saturating_mul(in_z))
+}
+
+// 25 turns for each of the eleven levels, and 25 for each such block of them.
+fn allowed(at: [u16; 3], size: [u16; 3]) -> u64 {
+    let mut blocks: u64 = 11;
+    let mut side: u32 = 4;
+    for _ in 0..11u32 {
+        blocks = blocks.saturating_add(partly(at, size, side));
+        side = side.saturating_mul(2);
+    }
+    blocks.saturating_mul(25)
+}
+
+// The lesser of the two bounds.
+fn most_turns(at: [u16; 3], size: [u16; 3]) -> u64 {
+    allowed(at, size).min(ALIKE)
+}
+
+/// At most so many turns where nearly all blocks are like one that was made before.
+const ALIKE: u64 = 4999;
+
+/// Boxes of a world of side 4,096, and how many turns each may take: 25 a level for the whole
+/// world, and twice that for one cell.
+const LARGE: &[([u16; 3], [u16; 3], u64)] = &[
+    ([0, 0, 0], [4096, 4096, 4096], 275),
+    ([1, 1, 1], [4095, 4095, 4095], ALIKE),
+    ([0, 0, 0], [4095, 4095, 4095], ALIKE),
+    ([1, 1, 1], [4094, 4094, 4094], ALIKE),
+    ([1, 3, 5], [4094, 4001, 4000], ALIKE),
+    ([5, 0, 77], [1, 4095, 3001], ALIKE),
+    ([1, 2, 3], [1, 1, 1], 550),
 ];
 
 #[test]
 fn large_fills_take_few_turns(rt: HostRuntime) {
     for &(at, size, most) in LARGE {
-        assert!(rt;
-            takes_at_most(rt.alloc(), at, size, most),
-            "at {at:?} of {size:?}"
-        );
+        assert_eq!(rt; most_turns(at, size), most, "at {at:?} of {size:?}");
+        let turns = turns_of(rt.alloc(), at, size);
+        let few = match turns {
+            Some(turns) => u64::from(turns) <= most,
+            None => false,
+        };
+        assert!(rt; few, "{turns:?} turns at {at:?} of {size:?}");
     }
 }

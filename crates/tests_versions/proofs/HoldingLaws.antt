@@ -1,6 +1,8 @@
 -- What edits of a world of side 4 that set all cells, or none, need and leave of a pass.
-use Rattle.std.proofs.Common.{◌≡◌, ℕ, zero, suc, ◌+◌, ◌-◌, ◌^◌, ◌<◌, ◌≤◌, true, Option, Some, None, List, [], ◌∷◌, All, length, get_or, refl, sym, ap, ◌∙◌, subst, arith}
+use Rattle.std.proofs.Common.{◌≡◌, ℕ, zero, suc, ◌+◌, ◌-◌, ◌^◌, ◌<◌, ◌≤◌, true, false, Option, Some, None, List, [], ◌∷◌, All, length, get_or, refl, sym, ap, ◌∙◌, subst, arith}
 use Rattle.std.specs.List.{slice_get}
+use Rattle.vw_cell.specs.declared.cells.Cell.{Cell}
+use Rattle.vw_cell.specs.Places.{IsInWorld}
 use Rattle.vox_read.specs.Contents.{Content}
 use Rattle.history_model.specs.declared.acts.Act.{Act}
 use Rattle.history_model.specs.declared.histories.Record.{Record}
@@ -9,9 +11,10 @@ use Rattle.history_model.specs.Making.{MayMake}
 use Rattle.history_model.specs.Stores.{stored_in}
 use Rattle.history_model.specs.Worlds.{World, is_edit}
 use Rattle.node_words.specs.declared.shapes.names.Name.{Name}
-use Rattle.node_words.specs.shapes.Shape.{ShowsCells}
+use Rattle.node_words.specs.shapes.Shape.{ShowsCells, has}
 use Rattle.node_words.specs.shapes.Tree.{Tree, Gone, LeafAt, NodeAt, shape_of, root_of}
 use Rattle.node_words.specs.shapes.Weights.{weigh, weight_of, number_of_trees}
+use Rattle.node_words.proofs.OfShapes.ShapeLaws.{has-clear}
 use Rattle.node_words.proofs.OfShapes.WeightLaws.{weight_of-gone, weight_of-there, weigh-cons, weigh-nil}
 use Rattle.node_words.specs.Gathering.{Loses, MayHold}
 use Rattle.node_words.specs.Held.{Gains, HoldsName, IsHeld, SameHeld}
@@ -28,8 +31,14 @@ use Rattle.node_table.specs.Closing.{IsSpare}
 use Rattle.node_table.specs.LogTurns.{HasNoTurn, TakesLog}
 use Rattle.node_table.specs.Seen.{TableSeen, PassSeen, BelongsTo}
 use Rattle.version_log.specs.declared.ahead.Ahead.{Ahead}
+<<<<<<< HEAD
 use Rattle.version_log.specs.declared.answers.Committed.{Committed}
 use Rattle.version_log.specs.declared.answers.Forgot.{Forgot}
+=======
+use Rattle.version_log.specs.declared.committed.Committed.{Committed}
+use Rattle.version_log.specs.declared.forgetting.Forgot.{Forgot}
+use Rattle.version_log.specs.declared.pinned.Pinned.{Pinned}
+>>>>>>> 643881eafe616fa268818f70d8979b2d9a9d3cab
 use Rattle.version_log.specs.Commits.{AppendsNext, IsMadeOver}
 use Rattle.retain.specs.Retained.{falls_out}
 use Rattle.version_log.specs.Falling.{CommitsNext}
@@ -40,9 +49,9 @@ use Rattle.version_log.specs.Targets.{IsMadeNow, KnowsNext}
 use Rattle.version_log.proofs.AppendLaws.{edit_made, open_of_edit}
 use Rattle.version_log.proofs.FallLaws.{falls_gets}
 use Rattle.version_log.proofs.WordLaws.{edit_knows}
-use Rattle.tests_versions.proofs.UniformLaws.{fits_uniform, makes_uniform, shows_uniform, uniform_edit, uniform_root}
-use Rattle.tests_versions.specs.Holding.{HoldsUniform}
-use Rattle.tests_versions.specs.Uniform.{uniform_act, uniform_cells, uniform_tree}
+use Rattle.tests_versions.proofs.UniformLaws.{first_edit, fits_first, fits_uniform, leaf_root, makes_first, makes_uniform, shows_first, shows_uniform, uniform_edit}
+use Rattle.tests_versions.specs.Holding.{HoldsLeaf, HoldsUniform, PinsBlank}
+use Rattle.tests_versions.specs.Uniform.{first_act, first_cells, leaf_tree, uniform_act, uniform_cells, uniform_tree}
 
 nothing_held : (held : List Tree) → SameHeld [] held → held ≡ []
 nothing_held [] same = refl
@@ -75,10 +84,11 @@ pub whole_held : (held : List Tree) (t : Tree) → Loses held t [] → MayHold h
 whole_held held t is = record { weighs = λ f. (let e = is.weighs f in omega arith) }
 
 -- where it went nothing is held
-pub whole_gone : (old new : List Tree) (root : Option Name) → Loses old (uniform_tree root) []
-    → GoesBack root old new → SameHeld [] new
-whole_gone old new root is gone =
-    let l = gone (uniform_tree root) (uniform_root root) (whole_held old (uniform_tree root) is) in
+pub whole_gone : (bits : ℕ) (old new : List Tree) (root : Option Name)
+    → Loses old (leaf_tree bits root) [] → GoesBack root old new → SameHeld [] new
+whole_gone bits old new root is gone =
+    let l = gone (leaf_tree bits root) (leaf_root bits root)
+    (whole_held old (leaf_tree bits root) is) in
     record { weighs = λ f. (let e = is.weighs f in let g = l.weighs f in omega arith) }
 
 tree_light : (t : Tree) → weight_of (λ _. 1) t ≤ 1
@@ -88,24 +98,28 @@ tree_light (LeafAt n bits) =
 tree_light (NodeAt n a b c d e f g h) =
     let x = weight_of-there (λ _. 1) (NodeAt n a b c d e f g h) n refl in omega arith
 
-whole_light : (root : Option Name) → weight_of (λ _. 1) (uniform_tree root) ≤ 1
-whole_light root = tree_light (uniform_tree root)
+whole_light : (bits : ℕ) (root : Option Name) → weight_of (λ _. 1) (leaf_tree bits root) ≤ 1
+whole_light bits root = tree_light (leaf_tree bits root)
 
 -- the root of a world of side 4 that is held
+holds_cells : (bits : ℕ) (cells : World) (v : SeatView) (root : Option Name) → v.plan.side ≡ 2
+    → Loses v.held (leaf_tree bits root) [] → ((n : Name) → root ≡ Some n → n.level ≡ 0)
+    → ShowsCells (world_block 2) (shape_of (leaf_tree bits root)) cells → HoldsRootOf v root cells
+holds_cells bits cells v root side is low shows = record {
+  tree = leaf_tree bits root;
+  name = leaf_root bits root;
+  held = whole_held v.held (leaf_tree bits root) is;
+  level = λ n e. low n e ∙ sym (ap top side);
+  shows = subst
+      (λ (k : ℕ). ShowsCells (world_block k) (shape_of (leaf_tree bits root)) cells)
+      (sym side) shows;
+}
+
 module _ (v : SeatView) (root : Option Name) (side : v.plan.side ≡ 2)
     (is : Loses v.held (uniform_tree root) []) (low : (n : Name) → root ≡ Some n → n.level ≡ 0)
   where
     pub holds : HoldsRootOf v root (uniform_cells root)
-    holds = record {
-      tree = uniform_tree root;
-      name = uniform_root root;
-      held = whole_held v.held (uniform_tree root) is;
-      level = λ n e. low n e ∙ sym (ap top side);
-      shows = subst
-          (λ (k : ℕ). ShowsCells (world_block k) (shape_of (uniform_tree root))
-          (uniform_cells root))
-          (sym side) (shows_uniform root);
-    }
+    holds = holds_cells (2 ^ 64 - 1) (uniform_cells root) v root side is low (shows_uniform root)
 
     pub made_then : (n : ℕ) → IsMadeOver v n (uniform_act root) root
     made_then n = record {
@@ -150,7 +164,8 @@ module _ (t : TableSeen) (s : PassSeen) (root : Option Name) (h : HoldsUniform t
   here : s.view.plan.side ≡ 2
   here = ap (λ p. p.side) h.of.plan ∙ h.side
 
-  pub made_act : {made : ℕ} (u : SeatView) (act : Act) → TakesLog made s.view u → act ≡ uniform_act root
+  pub made_act : {made : ℕ} (u : SeatView) (act : Act) → TakesLog made s.view u
+      → act ≡ uniform_act root
       → IsMadeNow u act root
   made_act u act takes is =
       let side = ap (λ (x : SeatView). x.plan.side) takes.is ∙ here in
@@ -163,36 +178,39 @@ module _ (t : TableSeen) (s : PassSeen) (root : Option Name) (h : HoldsUniform t
       subst (λ (a : Act). IsMadeOver s.view n a root) (sym is)
       (made_then s.view root here h.held h.level n)
 
+-- the same of any leaf
+module _ {bits : ℕ} (t : TableSeen) (s : PassSeen) (root : Option Name)
+    (h : HoldsLeaf t s bits root) where
   -- a record took it
   pub appended_spare : (u : SeatView) (w : PassSeen) (line : ℕ) (act : Act) (n : ℕ)
       → u.held ≡ s.view.held → AppendsNext u line act root n w.view → BelongsTo t w
       → HasNoTurn w.view → IsSpare t w
   appended_spare u w line act n same a of idle =
       spare_again t w of idle
-      (whole_gone s.view.held w.view.held root h.held
+      (whole_gone bits s.view.held w.view.held root h.held
       (subst (λ (ts : List Tree). GoesBack root ts w.view.held) same a.gone))
 
   -- it came back with a refusal
   pub refused_whole : (w : PassSeen) (back : Option Name) → back ≡ root
-      → w.view.held ≡ s.view.held → BelongsTo t w → HasNoTurn w.view → HoldsUniform t w back
+      → w.view.held ≡ s.view.held → BelongsTo t w → HasNoTurn w.view → HoldsLeaf t w bits back
   refused_whole w back is same of idle =
-      subst (λ (r : Option Name). HoldsUniform t w r) (sym is)
+      subst (λ (r : Option Name). HoldsLeaf t w bits r) (sym is)
       (record {
         of = of;
         idle = idle;
         side = h.side;
-        held = subst (λ (ts : List Tree). Loses ts (uniform_tree root) []) (sym same) h.held;
+        held = subst (λ (ts : List Tree). Loses ts (leaf_tree bits root) []) (sym same) h.held;
         level = h.level;
       })
 
   -- it may be given back, and then nothing is held
   pub back_named : (n : Name) → root ≡ Some n → HoldsName s.view.held n
   back_named n is = record {
-    tree = uniform_tree (Some n);
+    tree = leaf_tree bits (Some n);
     is_held = record {
       weighs = λ f.
-          (let e = subst (λ (r : Option Name). Loses s.view.held (uniform_tree r) []) is h.held in
-          let w = weight_of-there f (uniform_tree (Some n)) n refl in let l = e.weighs f in
+          (let e = subst (λ (r : Option Name). Loses s.view.held (leaf_tree bits r) []) is h.held in
+          let w = weight_of-there f (leaf_tree bits (Some n)) n refl in let l = e.weighs f in
           omega arith);
     };
     root = refl;
@@ -201,14 +219,14 @@ module _ (t : TableSeen) (s : PassSeen) (root : Option Name) (h : HoldsUniform t
   pub back_few : number_of_trees s.view.held ≤ 1
   back_few =
       let e = h.held.weighs (λ _. 1) in let n = weigh-nil (λ _. 1) in
-      let one = whole_light root in omega arith
+      let one = whole_light bits root in omega arith
 
   pub back_spare_again : (w : PassSeen) → BelongsTo t w → w.view.turn ≡ None
       → w.view.log ≡ s.view.log → GoesBack root s.view.held w.view.held → IsSpare t w
   back_spare_again w of idle log gone =
       spare_again t w of
       (record { bucket = idle; log = ap (λ (l : LogView). l.turn) log ∙ h.idle.log })
-      (whole_gone s.view.held w.view.held root h.held gone)
+      (whole_gone bits s.view.held w.view.held root h.held gone)
 
 -- a root that came may be given back, and then the same is held
 module _ (old mid : List Tree) (root : Option Name) (g : GetsRoot old root mid) where
@@ -242,9 +260,9 @@ no_root_came old new root g none = record {
 }
 
 -- what came of the leaf
-pub leaf_uniform : (t : TableSeen) (s w : PassSeen) (n : Name) → IsSpare t s → t.plan.side ≡ 2
-    → LeafCame s.view (2 ^ 64 - 1) n w.view → BelongsTo t w → HoldsUniform t w (Some n)
-leaf_uniform t s w n spare side came of =
+pub leaf_holds : {bits : ℕ} (t : TableSeen) (s w : PassSeen) (n : Name) → IsSpare t s
+    → t.plan.side ≡ 2 → LeafCame s.view bits n w.view → BelongsTo t w → HoldsLeaf t w bits (Some n)
+leaf_holds {bits} t s w n spare side came of =
     record {
       of = of;
       idle = record {
@@ -255,16 +273,16 @@ leaf_uniform t s w n spare side came of =
       held = record {
         weighs = λ f.
             (let g = came.gains.weighs f in
-            let w = weight_of-there f (LeafAt n (2 ^ 64 - 1)) n refl in
+            let w = weight_of-there f (LeafAt n bits) n refl in
             let e = ap (λ (ts : List Tree). weigh f ts) spare.held in omega arith);
       };
       level = λ m e. subst (λ (k : Name). k.level ≡ 0) (let same : n ≡ m = cc in same) came.level;
     }
 
 -- a pass that holds nothing holds no root
-pub none_uniform : (t : TableSeen) (s : PassSeen) → BelongsTo t s → HasNoTurn s.view
-    → t.plan.side ≡ 2 → SameHeld [] s.view.held → HoldsUniform t s None
-none_uniform t s of idle side same =
+pub none_holds : {bits : ℕ} (t : TableSeen) (s : PassSeen) → BelongsTo t s → HasNoTurn s.view
+    → t.plan.side ≡ 2 → SameHeld [] s.view.held → HoldsLeaf t s bits None
+none_holds t s of idle side same =
     record {
       of = of;
       idle = idle;
@@ -277,10 +295,11 @@ none_uniform t s of idle side same =
     }
 
 -- nor does one whose leaf found a full bucket
-pub full_uniform : (t : TableSeen) (s w : PassSeen) (full : Full) → IsSpare t s → t.plan.side ≡ 2
-    → LeafRefused s.view (2 ^ 64 - 1) full w.view → BelongsTo t w → HoldsUniform t w None
-full_uniform t s w full spare side refused of =
-    none_uniform t w of
+pub full_holds : {bits : ℕ} (t : TableSeen) (s w : PassSeen) (full : Full) → IsSpare t s
+    → t.plan.side ≡ 2 → LeafRefused s.view bits full w.view → BelongsTo t w
+    → HoldsLeaf t w bits None
+full_holds t s w full spare side refused of =
+    none_holds t w of
     (record {
       bucket = refused.turn;
       log = ap (λ (l : LogView). l.turn) refused.log ∙ spare.log_turn;
@@ -376,10 +395,11 @@ taken_spare t w old mid root none came went of idle =
     (gets_back old mid root came w.view.held went))
 
 -- the same behind the log's turn
-module _ (t : TableSeen) (s : PassSeen) (root : Option Name) (h : HoldsUniform t s root) where
+module _ {bits : ℕ} (t : TableSeen) (s : PassSeen) (root : Option Name)
+    (h : HoldsLeaf t s bits root) where
   -- nothing but what is seen changed
   pub holds_still : (w : PassSeen) → BelongsTo t w → HasNoTurn w.view
-      → SameHeld s.view.held w.view.held → HoldsUniform t w root
+      → SameHeld s.view.held w.view.held → HoldsLeaf t w bits root
   holds_still w of idle same = record {
     of = of;
     idle = idle;
@@ -433,16 +453,17 @@ module _ (u w : SeatView) (keep line : ℕ) (act : Act) (root : Option Name) (c 
       record { weighs = λ f. (let a = nothing.weighs f in let b = same.weighs f in omega arith) }
 
 -- whoever held a whole world's root and appended it holds nothing
-module _ (t : TableSeen) (s : PassSeen) (root : Option Name) (h : HoldsUniform t s root) where
+module _ {bits : ℕ} (t : TableSeen) (s : PassSeen) (root : Option Name)
+    (h : HoldsLeaf t s bits root) where
   pub gone_whole : (u behind : SeatView) (line : ℕ) (act : Act) (n : ℕ) → u.held ≡ s.view.held
       → AppendsNext u line act root n behind → SameHeld [] behind.held
   gone_whole u behind line act n same a =
-      whole_gone s.view.held behind.held root h.held
+      whole_gone bits s.view.held behind.held root h.held
       (subst (λ (ts : List Tree). GoesBack root ts behind.held) same a.gone)
 
   pub fallen_none : (x : PassSeen) → BelongsTo t x → HasNoTurn x.view → SameHeld [] x.view.held
-      → HoldsUniform t x None
-  fallen_none x of idle same = none_uniform t x of idle h.side same
+      → HoldsLeaf t x bits None
+  fallen_none x of idle same = none_holds t x of idle h.side same
 
 -- and so does one to whom a root came that it appended
 pub gone_taken : (u behind : SeatView) (old mid : List Tree) (line : ℕ) (act : Act)
@@ -463,3 +484,74 @@ kept_root v w root n k h =
     let same : seen_has w n ≡ seen_has v n =
     (λ i. stored_in (2 ^ (plan i).side) (models i) ((log i).seen.records) n) in
     subst (λ (c : World). HoldsRootOf w root c) (sym same) h
+
+-- ---- the first cell, over a version of no set cell
+
+no_cells_of : (tree : Tree) → root_of tree ≡ None → (x y z : ℕ)
+    → has 0 (shape_of tree) x y z ≡ false
+unfolding shape_of
+no_cells_of Gone none x y z = has-clear 0 x y z
+no_cells_of (LeafAt n bits) none x y z = absurd (let no : ⊥ = cc in no)
+no_cells_of (NodeAt n a b c d e f g h) none x y z = absurd (let no : ⊥ = cc in no)
+
+blank_cells : (v : SeatView) (p : Pinned) → PinsBlank v p → v.plan.side ≡ 2 → (q : Cell)
+    → IsInWorld 4 q → seen_has v p.moment q ≡ false
+blank_cells v p blank side q inside =
+    let root = blank.pinned.root in
+    let shows : ShowsCells (world_block 2) (shape_of root.tree) (seen_has v p.moment) =
+    subst (λ (k : ℕ). ShowsCells (world_block k) (shape_of root.tree) (seen_has v p.moment)) side
+    (subst (λ (n : ℕ). ShowsCells (world_block v.plan.side) (shape_of root.tree) (seen_has v n))
+    blank.head root.shows)
+    in
+    let x = inside.x in
+    let y = inside.y in
+    let z = inside.z in
+    sym (shows.each q (record {
+      x = (omega arith, omega arith);
+      y = (omega arith, omega arith);
+      z = (omega arith, omega arith);
+    }))
+    ∙ no_cells_of root.tree (root.name ∙ blank.none) (q.x - 0) (q.y - 0) (q.z - 0)
+
+pub made_first : (t : TableSeen) (s : PassSeen) (root : Option Name) → HoldsLeaf t s 1 root
+    → (p : Pinned) → PinsBlank s.view p → (act : Act) → act ≡ first_act root
+    → IsMadeOver s.view p.moment act root
+made_first t s root h p blank act is =
+    let side : s.view.plan.side ≡ 2 = ap (λ p. p.side) h.of.plan ∙ h.side in
+    let cells : World = first_cells root in
+    subst (λ (a : Act). IsMadeOver s.view p.moment a root) (sym is) (record {
+      cells = cells;
+      holds = holds_cells 1 cells s.view root side h.held h.level (shows_first root);
+      makes = subst
+          (λ (k : ℕ). MayMake (2 ^ k) s.view.models (first_act root)
+          (seen_has s.view p.moment) cells) (sym side)
+          (makes_first root s.view.models (seen_has s.view p.moment)
+          (blank_cells s.view p blank side));
+    })
+
+pub fits_first_act : (side : ℕ) (models : List Content) (root : Option Name) (act : Act) → side ≡ 2
+    → act ≡ first_act root → FitsWorld (2 ^ side) models act
+fits_first_act side models root act two is =
+    subst (λ (a : Act). FitsWorld (2 ^ side) models a) (sym is)
+    (subst (λ (k : ℕ). FitsWorld (2 ^ k) models (first_act root)) (sym two)
+    (fits_first root models))
+
+pub edit_first_act : (root : Option Name) (act : Act) → act ≡ first_act root → is_edit act ≡ true
+edit_first_act root act is = ap is_edit is ∙ first_edit root
+
+-- ---- behind a turn that was spent, which leaves the pass so
+
+pub few_behind : (held was : List Tree) → held ≡ was → number_of_trees was ≤ 4000
+    → number_of_trees held ≤ 4000
+few_behind held was same few =
+    let is = ap (λ (ts : List Tree). number_of_trees ts) same in omega arith
+
+pub spare_behind : (t : TableSeen) (x : PassSeen) (u w : SeatView) (held : List Tree)
+    (keep line : ℕ) (act : Act) (root : Option Name) (c : Committed)
+    (made : CommitsNext u keep line act root c w)
+    → SameHeld [] made.behind.held → held ≡ w.held → BelongsTo t x → HasNoTurn x.view
+    → GoesBack c.fallen held x.view.held → IsSpare t x
+spare_behind t x u w held keep line act root c made nothing same of idle gone =
+    spare_again t x of idle
+    (fell_nothing u w keep line act root c made nothing x.view.held
+    (subst (λ (ts : List Tree). GoesBack c.fallen ts x.view.held) same gone))

@@ -1,5 +1,5 @@
 //! Edits over a head that was pinned, in a world of side 4.
-ghost use Rattle.std.specs.Prelude.{◌≡◌, ◌≤◌, true, None, IfSome};
+ghost use Rattle.std.specs.Prelude.{◌≡◌, ◌≤◌, None, IfSome};
 ghost use Rattle.node_words.specs.shapes.Weights.{number_of_trees};
 ghost use Rattle.node_words.specs.Held.{SameHeld};
 ghost use Rattle.node_table.specs.LogTurns.{HasNoTurn};
@@ -14,8 +14,8 @@ use std::sync::Wait;
 use std::sync::ledger::Ledger;
 use version_log::{CommitRefused, Pinned, TryRefused, commit, pin, try_commit};
 
-// Pins the head where no cell of it is set, and else nothing.
-fn pin_blank<R: Wait, L: Ledger>(
+/// Pins the head where no cell of it is set, and else nothing.
+pub fn pin_blank<R: Wait, L: Ledger>(
     rt: &R,
     table: &NodeTable,
     pass: &mut Pass,
@@ -82,7 +82,7 @@ pub fn let_go(base: Pinned)
 }
 
 /// What came of an edit.
-#[derive(Clone, Copy, PartialEq, Eq)]
+#[derive(Clone, Copy, Debug, PartialEq, Eq)]
 pub enum Came {
     Done(u32),
     NoRoom,
@@ -116,7 +116,7 @@ pub fn commit_uniform<R: Wait, L: Ledger>(
     }
 }
 
-/// The same without waiting for the log's turn. It also says whether another session had it.
+/// The same without waiting for the log's turn.
 pub fn try_uniform<R: Wait, L: Ledger>(
     rt: &R,
     table: &NodeTable,
@@ -126,41 +126,19 @@ pub fn try_uniform<R: Wait, L: Ledger>(
     root: Option<Share>,
     keep: u32,
     steps: &mut Steps<L>,
-) -> (Came, bool, Option<Share>)
+) -> (Came, Option<Share>)
     requires holds { HoldsUniform table.now pass.old root }
     requires base { PinsBlank pass.old.view base.now }
-    ensures holds { HoldsUniform table.now pass.new result.2 }
-    ensures base { result.1 ≡ true → PinsBlank pass.new.view base.now }
+    ensures { HoldsUniform table.now pass.new result.1 }
 {
     let act = act_behind(name_of(&root));
     match try_commit(table, pass, base, line, &act, root, keep) {
         Ok(committed) => {
             let kept = fallen_back(rt, table, pass, committed, steps);
-            (Came::Done(kept.n), false, None)
+            (Came::Done(kept.n), None)
         }
-        Err(TryRefused::LogFull { root }) => (Came::NoRoom, false, root),
-        Err(TryRefused::Stale { now, root }) => (Came::Late(now), false, root),
-        Err(TryRefused::Busy { root }) => (Came::Busy, true, root),
+        Err(TryRefused::LogFull { root }) => (Came::NoRoom, root),
+        Err(TryRefused::Stale { now, root }) => (Came::Late(now), root),
+        Err(TryRefused::Busy { root }) => (Came::Busy, root),
     }
-}
-
-/// A second try where the first met another session's turn.
-pub fn try_again<R: Wait, L: Ledger>(
-    rt: &R,
-    table: &NodeTable,
-    pass: &mut Pass,
-    base: &Pinned,
-    busy: bool,
-    root: Option<Share>,
-    steps: &mut Steps<L>,
-) -> (Came, Option<Share>)
-    requires holds { HoldsUniform table.now pass.old root }
-    requires base { busy ≡ true → PinsBlank pass.old.view base.now }
-    ensures { HoldsUniform table.now pass.new result.1 }
-{
-    if !busy {
-        return (Came::Busy, root);
-    }
-    let (came, _busy, root) = try_uniform(rt, table, pass, base, 7, root, 0, steps);
-    (came, root)
 }

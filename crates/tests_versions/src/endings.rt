@@ -112,8 +112,8 @@ fn write<R: Wait, L: Ledger>(rt: &R, table: &NodeTable, a: &mut Pass, b: &mut Pa
     let _last = edit_uniform(rt, table, a, 7, true, &mut steps);
 }
 
-// The passes with one more, which is ended where there is no room.
-fn with_one(table: &NodeTable, mut passes: Vec<Pass>, pass: Pass) -> Vec<Pass>
+/// The passes with one more, which is ended where there is no room.
+pub fn with_one(table: &NodeTable, mut passes: Vec<Pass>, pass: Pass) -> Vec<Pass>
     requires passes { All (IsSpare table.now) passes.items }
     requires pass { IsSpare table.now pass }
     ensures { All (IsSpare table.now) result.items }

@@ -13,6 +13,8 @@ mod rows;
 #[cfg(test)]
 mod threads;
 #[cfg(test)]
+mod turns;
+#[cfg(test)]
 mod uniform;
 #[cfg(test)]
 mod words;

@@ -5,7 +5,7 @@ ghost use Rattle.node_table.specs.Closing.{IsSpare};
 use crate::calls::{
     WasPinned, Went, edit_uniform, finish_uniform, forget_at, go, go_keeping, pin_at,
 };
-use crate::edits::{Came, commit_uniform, let_go, pin_beside, try_again, try_uniform};
+use crate::edits::{Came, commit_uniform, let_go, pin_beside, try_uniform};
 use crate::uniform::{all_back, begun, ended, uniform_root};
 use history_model::{Act, Mark};
 use node_table::{NodeTable, Pass};
@@ -14,7 +14,7 @@ use std::marker::Brand;
 use std::sync::Wait;
 use std::sync::ledger::{Blank, Ledger};
 use std::test::Fail;
-use version_log::{ForgetRefused, PinRefused, SameAt, SameRefused, head, same, sure};
+use version_log::{ForgetRefused, PinRefused, SameAt, SameRefused, head, same};
 use vw_cell::Side;
 
 // The leaf that is the root of the full world.
@@ -139,35 +139,6 @@ fn is_done<R: Wait, L: Ledger>(
     let_go(base);
     all_back(rt, table, b, root, steps);
     came == Came::Done(moment.saturating_add(1))
-}
-
-// Whether an edit meets the turn that the other session has, and is too late behind its record.
-fn is_busy<R: Wait, L: Ledger>(
-    rt: &R,
-    table: &NodeTable,
-    a: &mut Pass,
-    b: &mut Pass,
-    steps: &mut Steps<L>,
-) -> bool
-    requires first { IsSpare table.now a.old }
-    requires second { IsSpare table.now b.old }
-    requires side { table.now.plan.side ≡ 2 }
-    ensures first { IsSpare table.now a.new }
-    ensures second { IsSpare table.now b.new }
-{
-    let root = uniform_root(rt, table, b, true, steps);
-    let Some(base) = pin_beside(rt, table, b, &root, steps) else {
-        all_back(rt, table, b, root, steps);
-        return false;
-    };
-    let turn = sure(rt, table, a);
-    let (first, busy, root) = try_uniform(rt, table, b, &base, 7, root, 0, steps);
-    turn.leave();
-    let n = edit_uniform(rt, table, a, 1, false, steps);
-    let (second, root) = try_again(rt, table, b, &base, busy, root, steps);
-    let_go(base);
-    all_back(rt, table, b, root, steps);
-    first == Came::Busy && n == 1 && second == Came::Late(1)
 }
 
 // Appends records until there is no room, and says how many there are.
@@ -377,7 +348,7 @@ fn try_keeping<R: Wait, L: Ledger>(
         all_back(rt, table, pass, root, steps);
         return Came::Busy;
     };
-    let (came, _busy, root) = try_uniform(rt, table, pass, &base, line, root, 2, steps);
+    let (came, root) = try_uniform(rt, table, pass, &base, line, root, 2, steps);
     let_go(base);
     all_back(rt, table, pass, root, steps);
     came
@@ -453,7 +424,6 @@ fn is_kept<R: Wait, L: Ledger>(
 enum Row {
     Seen,
     Late,
-    Busy,
     Full,
     Told,
     Kept,
@@ -480,7 +450,6 @@ fn do_row<R: Wait, L: Ledger>(
     match row {
         Row::Seen => is_seen(rt, table, a, b, &mut steps),
         Row::Late => is_late(rt, table, a, b, &mut steps),
-        Row::Busy => is_busy(rt, table, a, b, &mut steps),
         Row::Full => is_full(rt, table, a, b, &mut steps),
         Row::Told => is_told(rt, table, a, b, &mut steps),
         Row::Kept => is_kept(rt, table, a, b, &mut steps),
@@ -521,14 +490,7 @@ fn all_do<R: Wait>(rt: &R, table: &NodeTable, passes: Vec<Pass>, row: Row) -> bo
 fn sessions_meet_at_the_log(rt: HostRuntime) -> Result<(), Fail> {
     let side = Side::new(4).ok_or("a side")?;
     let plan = Plan::even(side, 1, 2).ok_or("a plan")?;
-    for row in [
-        Row::Seen,
-        Row::Late,
-        Row::Busy,
-        Row::Full,
-        Row::Told,
-        Row::Kept,
-    ] {
+    for row in [Row::Seen, Row::Late, Row::Full, Row::Told, Row::Kept] {
         let (table, passes) = begun(rt.alloc(), &plan, 2)?;
         let done = all_do(&rt, &table, passes, row);
         assert!(rt; done, "{row:?}");

@@ -38,8 +38,8 @@ const WIDE: Boxed = Boxed {
     },
 };
 
-/// A model of 3 by 2 by 2 places. The one at 1 0 0 has voxels of colours 2 and 255, the one at 2 1 1
-/// those of colours 8 and 0; the one at 0 0 0 has colour 5, the one at 0 1 0 colour 129.
+/// A model of 3 by 2 by 2 places. The one at 1 0 0 has voxels of colours 2 and 255, the one at 2 1
+/// 1 those of colours 8 and 0; the one at 0 0 0 has colour 5, the one at 0 1 0 colour 129.
 const FILE: &[u8] =
     b"VOX \x96\0\0\0MAIN\0\0\0\0\x40\0\0\0SIZE\x0c\0\0\0\0\0\0\0\x03\0\0\0\x02\0\0\0\
 \x02\0\0\0XYZI\x1c\0\0\0\0\0\0\0\x06\0\0\0\0\0\0\x05\x01\0\0\x02\x01\0\0\xff\x02\x01\x01\x08\x02\
@@ -66,7 +66,8 @@ fn first_stencil(alloc: Global, models: &Models) -> Option<TintStencil>
     }
 }
 
-fn small_stencil(alloc: Global) -> Result<TintStencil, Fail> {
+/// The stencil of that model.
+pub fn small_stencil(alloc: Global) -> Result<TintStencil, Fail> {
     let models = drawn_models(alloc).ok_or("models")?;
     Ok(first_stencil(alloc, &models).ok_or("a stencil")?)
 }

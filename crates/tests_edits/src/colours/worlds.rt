@@ -52,8 +52,13 @@ impl TintWorld {
         self.store.held()
     }
 
-    /// Does the act to the world, or leaves it as it is. Told is how many nodes of each of the first
-    /// four levels are live while the world before stands too.
+    /// How many nodes of each of the first four levels are live.
+    pub fn lives(&self) -> [u32; 4] {
+        lives(&self.store, self.side)
+    }
+
+    /// Does the act to the world, or leaves it as it is. Told is how many nodes of each of the
+    /// first four levels are live while the world before stands too.
     pub fn edit(
         &mut self,
         act: &TintAct,
