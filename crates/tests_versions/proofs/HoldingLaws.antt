@@ -31,14 +31,9 @@ use Rattle.node_table.specs.Closing.{IsSpare}
 use Rattle.node_table.specs.LogTurns.{HasNoTurn, TakesLog}
 use Rattle.node_table.specs.Seen.{TableSeen, PassSeen, BelongsTo}
 use Rattle.version_log.specs.declared.ahead.Ahead.{Ahead}
-<<<<<<< HEAD
 use Rattle.version_log.specs.declared.answers.Committed.{Committed}
 use Rattle.version_log.specs.declared.answers.Forgot.{Forgot}
-=======
-use Rattle.version_log.specs.declared.committed.Committed.{Committed}
-use Rattle.version_log.specs.declared.forgetting.Forgot.{Forgot}
-use Rattle.version_log.specs.declared.pinned.Pinned.{Pinned}
->>>>>>> 643881eafe616fa268818f70d8979b2d9a9d3cab
+use Rattle.version_log.specs.declared.answers.Pinned.{Pinned}
 use Rattle.version_log.specs.Commits.{AppendsNext, IsMadeOver}
 use Rattle.retain.specs.Retained.{falls_out}
 use Rattle.version_log.specs.Falling.{CommitsNext}

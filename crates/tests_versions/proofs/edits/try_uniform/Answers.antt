@@ -29,15 +29,9 @@ fallen_back-kept-requires-clause-room g c =
     fell_few _ _ _ _ _ _ _ made
     (gone_whole _ _ _ c.requires.holds _ _ _ _ _ refl made.appends)
 
-<<<<<<< HEAD
-pub returns-in-Ok-clause-holds : goal.returns-in-Ok-clause-holds
-returns-in-Ok-clause-holds g c =
-    let made = c.in-Ok.ensures.came.commits in
-=======
 pub returns-in-Ok : goal.returns-in-Ok
 returns-in-Ok g c =
-    let made = c.in-Ok.ensures.commits in
->>>>>>> 643881eafe616fa268818f70d8979b2d9a9d3cab
+    let made = c.in-Ok.ensures.came.commits in
     fallen_none _ _ _ c.requires.holds _ c.fallen_back-kept.ensures.of
     c.fallen_back-kept.ensures.idle
     (fell_nothing _ _ _ _ _ _ _ made

@@ -12,14 +12,19 @@ finish-requires-clause-room g c =
     few_taken c.uniform_root-own.new.pass.view c.sure-turn.result.pass.now.view
     c.sure-turn.ensures.takes (back_few _ _ _ c.uniform_root-own.ensures)
 
-pub finish-requires-clause-made : goal.finish-requires-clause-made
-finish-requires-clause-made g c =
-    made_act _ _ _ c.uniform_root-own.ensures _ _ c.sure-turn.ensures.takes
-    (c.act_behind-act.ensures ∙ ap uniform_act c.name_of.ensures)
+pub finish-requires-clause-may : goal.finish-requires-clause-may
+finish-requires-clause-may g c =
+    record {
+      fits = search rules;
+      target = search rules;
+      known = search rules;
+      made = made_act _ _ _ c.uniform_root-own.ensures _ _ c.sure-turn.ensures.takes
+          (c.act_behind-act.ensures ∙ ap uniform_act c.name_of.ensures);
+    }
 
 pub fallen_back-requires-clause-room : goal.fallen_back-requires-clause-room
 fallen_back-requires-clause-room g c =
-    let made = c.in-Ok.ensures.commits in
+    let made = c.in-Ok.ensures.came in
     few_behind _ _ (search rules)
     (fell_few _ _ _ _ _ _ _ made
     (gone_whole _ _ _ c.uniform_root-own.ensures _ _ _ _ _
@@ -28,7 +33,7 @@ fallen_back-requires-clause-room g c =
 pub returns-clause-first : goal.returns-clause-first
 returns-clause-first g c = elim c.match-finish.branch [
   | in-Ok w ↦
-      let made = w.in-Ok.ensures.commits in
+      let made = w.in-Ok.ensures.came in
       subst (λ (s : PassSeen). IsSpare c.args.table.now s) (sym w.a-is)
       (spare_behind _ _ _ _ _ _ _ _ _ _ made
       (gone_whole _ _ _ c.uniform_root-own.ensures _ _ _ _ _
