@@ -118,8 +118,8 @@ pub fn take_log<R: Wait>(rt: &R, table: &NodeTable, pass: &mut Pass)
     read_log(table, pass);
 }
 
-/// Whether the log's turn came, by one exchange. All records of the log are seen then. Where another
-/// session has it, its number is noted.
+/// Whether the log's turn came, by one exchange. All records of the log are seen then. Where
+/// another session has it, its number is noted.
 pub fn try_take_log(table: &NodeTable, pass: &mut Pass) -> bool
     requires of { BelongsTo table.now pass.old }
     requires idle { HasNoTurn pass.old.view }
