@@ -2,9 +2,10 @@ ghost use Rattle.std.specs.Prelude.{◌≡◌, ◌≢◌, ◌+◌, ◌*◌, ◌-
 ghost use Rattle.vw_cell.specs.Sums.{sum_below};
 ghost use Rattle.node_words.specs.shapes.Weights.{number_of_trees};
 ghost use Rattle.node_words.specs.Held.{name_in};
-ghost use Rattle.node_words.specs.Gathering.{Comes, Grows, Fails};
+ghost use Rattle.node_words.specs.Gathering.{Grows};
 ghost use Rattle.node_words.specs.contents.CellShapes.{shape_with};
 ghost use Rattle.edit_walk.specs.cells.Tasks.{MakesCells, ForCells};
+ghost use Rattle.edit_walk.specs.Edits.{MakesBlock};
 ghost use Rattle.edit_walk.specs.blocks.Blocks.{height, Aside, Came, RefusesBlock};
 ghost use Rattle.edit_walk.specs.declared.memos.Kept.{Kept};
 ghost use Rattle.edit_walk.specs.Memos.{RecallsHeld};
@@ -308,14 +309,9 @@ pub fn rebuild<T: Task, M: Memo<T>, N: NodeStore, L: Ledger>(
     requires memo { RecallsHeld T.makes (N.seen store.old).held (M.has memo.old) }
     requires task { MakesCells (T.makes task.now) (N.seen store.old).held level }
     requires room { number_of_trees (N.seen store.old).held ≤ 3910 }
-    ensures ok { IfOk result (λ r. ForCells (T.makes task.now) (N.seen store.old).held level
-        (λ base cells. Comes (N.seen store.old).held level (shape_with level cells) r
-        (N.seen store.new).held)) }
-    ensures grows { OnOk result (ForCells (T.makes task.now) (N.seen store.old).held level
-        (λ base cells. Grows (shape_with level cells) (N.seen store.old) (N.seen store.new))) }
-    ensures full { IfErr result (λ e. ForCells (T.makes task.now) (N.seen store.old).held level
-        (λ base cells. Fails (shape_with level cells) e.level e.bucket (N.seen store.old)
-        (N.seen store.new))) }
+    ensures made { ForCells (T.makes task.now) (N.seen store.old).held level
+        (λ base cells. MakesBlock level (shape_with level cells) result (N.seen store.old)
+        (N.seen store.new)) }
     ensures memo { OnOk result (RecallsHeld T.makes (N.seen store.new).held (M.has memo.new)) }
     ensures rests { N.rests store.old store.new }
     ensures turns { OnOk result

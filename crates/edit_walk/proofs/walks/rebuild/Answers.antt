@@ -49,29 +49,23 @@ back_if-requires-in-Err-clause-room g c =
       c.requires.room,
     )
 
-pub returns-in-Ok-clause-ok : goal.returns-in-Ok-clause-ok
-returns-in-Ok-clause-ok g c base cells k m =
-    let w =
-    (c.in-Ok.ensures.ok _ _ cells
-    (begins_held _ base _ _ _ cells _ g.T.Task.lasts c.held-held.ensures.trees.named k c.requires.memo m)).came in
-    rebuilt_comes _ _ _ _ _ _ _ w
-    (c.back_if.ensures.gone w.aside.tree w.aside.root (aside_may _ _ _ w.aside))
+pub returns-in-Ok-clause-made : goal.returns-in-Ok-clause-made
+returns-in-Ok-clause-made g c base cells k m =
+    let begins =
+    begins_held _ base _ _ _ cells _ g.T.Task.lasts c.held-held.ensures.trees.named k c.requires.memo m in
+    let w = (c.in-Ok.ensures.ok _ _ cells begins).came in
+    record {
+      came = rebuilt_comes _ _ _ _ _ _ _ w
+          (c.back_if.ensures.gone w.aside.tree w.aside.root (aside_may _ _ _ w.aside));
+      grows = grows_held _ _ _ _ (c.in-Ok.ensures.grows _ _ cells begins) c.back_if.ensures.only;
+    }
 
-pub returns-in-Ok-clause-grows : goal.returns-in-Ok-clause-grows
-returns-in-Ok-clause-grows g c base cells k m =
-    grows_held _ _ _ _
-    (c.in-Ok.ensures.grows _ _ cells
-    (begins_held _ base _ _ _ cells _ g.T.Task.lasts c.held-held.ensures.trees.named k c.requires.memo m)) c.back_if.ensures.only
-
-pub returns-in-Err-clause-full : goal.returns-in-Err-clause-full
-returns-in-Err-clause-full g c base cells k m =
-    let r =
-    c.in-Err.ensures.full _ _ cells
-    (begins_held _ base _ _ _ cells _ g.T.Task.lasts c.held-held.ensures.trees.named k c.requires.memo m) in
-    let a =
-    c.in-Err.ensures.rest _ _ cells
-    (begins_held _ base _ _ _ cells _ g.T.Task.lasts c.held-held.ensures.trees.named k c.requires.memo m) in
-    rebuilt_fails _ _ _ _ _ _ _ r c.back_if-in-Err.ensures.only a
+pub returns-in-Err-clause-made : goal.returns-in-Err-clause-made
+returns-in-Err-clause-made g c base cells k m =
+    let begins =
+    begins_held _ base _ _ _ cells _ g.T.Task.lasts c.held-held.ensures.trees.named k c.requires.memo m in
+    let a = c.in-Err.ensures.rest _ _ cells begins in
+    rebuilt_fails _ _ _ _ _ _ _ (c.in-Err.ensures.full _ _ cells begins) c.back_if-in-Err.ensures.only a
     (c.back_if-in-Err.ensures.gone a.tree a.root (aside_may _ _ _ a))
 
 pub returns-in-Ok-clause-turns : goal.returns-in-Ok-clause-turns
