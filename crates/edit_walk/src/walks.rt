@@ -1,15 +1,14 @@
-ghost use Rattle.std.specs.Prelude.{◌≡◌, ◌≢◌, ◌+◌, ◌*◌, ◌-◌, ◌^◌, ◌<◌, ◌≤◌, ℕ, None, IfOk, OnOk, IfErr, OnErr, max, replicate};
+ghost use Rattle.std.specs.Prelude.{◌≡◌, ◌≢◌, ◌+◌, ◌*◌, ◌-◌, ◌^◌, ◌<◌, ◌≤◌, ℕ, None, OnOk, OnErr, max, replicate};
 ghost use Rattle.vw_cell.specs.Sums.{sum_below};
 ghost use Rattle.node_words.specs.shapes.Weights.{number_of_trees};
 ghost use Rattle.node_words.specs.Held.{name_in};
-ghost use Rattle.node_words.specs.Gathering.{Grows};
 ghost use Rattle.node_words.specs.contents.CellShapes.{shape_with};
 ghost use Rattle.edit_walk.specs.cells.Tasks.{MakesCells, ForCells};
 ghost use Rattle.edit_walk.specs.Edits.{MakesBlock};
-ghost use Rattle.edit_walk.specs.blocks.Blocks.{height, Aside, Came, RefusesBlock};
+ghost use Rattle.edit_walk.specs.blocks.Blocks.{height, BlockCame};
 ghost use Rattle.edit_walk.specs.declared.memos.Kept.{Kept};
 ghost use Rattle.edit_walk.specs.Memos.{RecallsHeld};
-ghost use Rattle.edit_walk.specs.Walks.{walk_at, Built, CanBuild, Builds, BuildsParts, StopsWalk, LeavesRest, GathersAll, CanGoOn, ForOctant, CanBeWhole, ForWhole};
+ghost use Rattle.edit_walk.specs.Walks.{walk_at, CanBuild, Walks, WalkCame, WalksOctants, CanGoOn, ForOctant, CanBeWhole, ForWhole};
 
 use crate::blocks::{again, back_all, back_if, full_block, join, leaf, named, put};
 use crate::cells::{Task, Whole};
@@ -32,16 +31,9 @@ fn build<T: Task, M: Memo<T>, N: NodeStore, L: Ledger>(
     requires task { CanBuild T.makes level task.now
         (walk_at (N.seen store.old) full.old (M.has memo.old)) }
     requires room { number_of_trees (N.seen store.old).held + 9 * level ≤ 4000 }
-    ensures ok { IfOk result (λ r. Builds T.makes level task.now
-        (walk_at (N.seen store.old) full.old (M.has memo.old)) r
-        (walk_at (N.seen store.new) full.new (M.has memo.new))) }
-    ensures grows { OnOk result (BuildsParts T.makes level task.now
-        (walk_at (N.seen store.old) full.old (M.has memo.old)) (N.seen store.new)) }
-    ensures full { IfErr result (λ e. StopsWalk T.makes level task.now
-        (walk_at (N.seen store.old) full.old (M.has memo.old)) e.level e.bucket
-        (N.seen store.new)) }
-    ensures rest { OnErr result (LeavesRest T.makes level task.now
-        (walk_at (N.seen store.old) full.old (M.has memo.old)) (N.seen store.new) full.new) }
+    ensures walked { Walks T.makes level task.now
+        (walk_at (N.seen store.old) full.old (M.has memo.old)) result
+        (walk_at (N.seen store.new) full.new (M.has memo.new)) }
     ensures rests { N.rests store.old store.new }
     ensures turns { OnOk result (steps.new + 16 * height full.old
         ≤ steps.old + 16 * height full.new + 1 + 25 * T.mixed level task.now) }
@@ -56,10 +48,7 @@ fn build<T: Task, M: Memo<T>, N: NodeStore, L: Ledger>(
     }
     match memo.find(level, task) {
         Some(kept) => Ok(again(store, kept.name, steps)),
-        None => match fresh(store, level, task, full, memo, steps) {
-            Ok(share) => Ok(share),
-            Err(e) => Err(e),
-        },
+        None => fresh(store, level, task, full, memo, steps),
     }
 }
 
@@ -79,16 +68,9 @@ fn fresh<T: Task, M: Memo<T>, N: NodeStore, L: Ledger>(
     requires room { number_of_trees (N.seen store.old).held + 9 * level ≤ 4000 }
     requires mixed { 1 ≤ level
         → 1 + sum_below 8 (T.mixed_in level task.now) ≤ T.mixed level task.now }
-    ensures ok { IfOk result (λ r. Builds T.makes level task.now
-        (walk_at (N.seen store.old) full.old (M.has memo.old)) r
-        (walk_at (N.seen store.new) full.new (M.has memo.new))) }
-    ensures grows { OnOk result (BuildsParts T.makes level task.now
-        (walk_at (N.seen store.old) full.old (M.has memo.old)) (N.seen store.new)) }
-    ensures full { IfErr result (λ e. StopsWalk T.makes level task.now
-        (walk_at (N.seen store.old) full.old (M.has memo.old)) e.level e.bucket
-        (N.seen store.new)) }
-    ensures rest { OnErr result (LeavesRest T.makes level task.now
-        (walk_at (N.seen store.old) full.old (M.has memo.old)) (N.seen store.new) full.new) }
+    ensures walked { Walks T.makes level task.now
+        (walk_at (N.seen store.old) full.old (M.has memo.old)) result
+        (walk_at (N.seen store.new) full.new (M.has memo.new)) }
     ensures rests { N.rests store.old store.new }
     ensures turns { OnOk result (steps.new + 16 * height full.old
         ≤ steps.old + 16 * height full.new + 1 + 25 * T.mixed level task.now) }
@@ -124,16 +106,9 @@ fn made<T: Task, M: Memo<T>, N: NodeStore, L: Ledger>(
     requires room { number_of_trees (N.seen store.old).held + 9 * level ≤ 4000 }
     requires mixed { 1 ≤ level
         → 1 + sum_below 8 (T.mixed_in level task.now) ≤ T.mixed level task.now }
-    ensures ok { IfOk result (λ r. Builds T.makes level task.now
-        (walk_at (N.seen store.old) full.old (M.has memo.old)) r
-        (walk_at (N.seen store.new) full.new (M.has memo.new))) }
-    ensures grows { OnOk result (BuildsParts T.makes level task.now
-        (walk_at (N.seen store.old) full.old (M.has memo.old)) (N.seen store.new)) }
-    ensures full { IfErr result (λ e. StopsWalk T.makes level task.now
-        (walk_at (N.seen store.old) full.old (M.has memo.old)) e.level e.bucket
-        (N.seen store.new)) }
-    ensures rest { OnErr result (LeavesRest T.makes level task.now
-        (walk_at (N.seen store.old) full.old (M.has memo.old)) (N.seen store.new) full.new) }
+    ensures walked { Walks T.makes level task.now
+        (walk_at (N.seen store.old) full.old (M.has memo.old)) result
+        (walk_at (N.seen store.new) full.new (M.has memo.new)) }
     ensures rests { N.rests store.old store.new }
     ensures turns { OnOk result (steps.new + 16 * height full.old
         ≤ steps.old + 16 * height full.new + 1 + 25 * T.mixed level task.now) }
@@ -172,15 +147,9 @@ fn known<N: NodeStore, L: Ledger>(
     requires known { CanBeWhole level whole (N.seen store.old) full.old }
     requires whole { whole ≢ Whole.Mixed }
     requires room { number_of_trees (N.seen store.old).held ≤ 4000 }
-    ensures ok { IfOk result (λ r. ForWhole level whole (N.seen store.old) full.old
-        (λ rest target. Came rest level target r (N.seen store.new).held full.new)) }
-    ensures grows { OnOk result (ForWhole level whole (N.seen store.old) full.old
-        (λ rest target. Grows target (N.seen store.old) (N.seen store.new))) }
-    ensures full { IfErr result (λ e. ForWhole level whole (N.seen store.old) full.old
-        (λ rest target. RefusesBlock target e.level e.bucket (N.seen store.old)
-        (N.seen store.new))) }
-    ensures rest { OnErr result (ForWhole level whole (N.seen store.old) full.old
-        (λ rest target. Aside (N.seen store.new).held full.new rest)) }
+    ensures came { ForWhole level whole (N.seen store.old) full.old
+        (λ rest target. BlockCame rest level target result (N.seen store.old) (N.seen store.new)
+        full.new) }
     ensures rests { N.rests store.old store.new }
     ensures turns { OnOk result
         (steps.new + 16 * height full.old ≤ steps.old + 16 * height full.new + 1) }
@@ -213,16 +182,9 @@ fn gather<T: Task, M: Memo<T>, N: NodeStore, L: Ledger>(
     requires task { CanBuild T.makes level task.now
         (walk_at (N.seen store.old) full.old (M.has memo.old)) }
     requires room { number_of_trees (N.seen store.old).held + 9 * level ≤ 4000 }
-    ensures ok { OnOk result (GathersAll T.makes level task.now
-        (walk_at (N.seen store.old) full.old (M.has memo.old)) children.new
-        (walk_at (N.seen store.new) full.new (M.has memo.new))) }
-    ensures grows { OnOk result (BuildsParts T.makes level task.now
-        (walk_at (N.seen store.old) full.old (M.has memo.old)) (N.seen store.new)) }
-    ensures full { IfErr result (λ e. StopsWalk T.makes level task.now
-        (walk_at (N.seen store.old) full.old (M.has memo.old)) e.level e.bucket
-        (N.seen store.new)) }
-    ensures rest { OnErr result (LeavesRest T.makes level task.now
-        (walk_at (N.seen store.old) full.old (M.has memo.old)) (N.seen store.new) full.new) }
+    ensures walked { WalksOctants T.makes level task.now
+        (walk_at (N.seen store.old) full.old (M.has memo.old)) children.new result
+        (walk_at (N.seen store.new) full.new (M.has memo.new)) }
     ensures none { OnErr result ((k : ℕ) → k < 8 → name_in children.new k ≡ None) }
     ensures rests { N.rests store.old store.new }
     ensures turns { OnOk result (steps.new + 16 * height full.old
@@ -267,20 +229,11 @@ fn octant<T: Task, M: Memo<T>, N: NodeStore, L: Ledger>(
     requires task { CanGoOn T.makes level task.now children.now k
         (walk_at (N.seen store.old) full.old (M.has memo.old)) }
     requires room { number_of_trees (N.seen store.old).held + 9 * (level - 1) ≤ 4000 }
-    ensures ok { IfOk result (λ r. ForOctant T.makes level task.now children.now k
+    ensures walked { ForOctant T.makes level task.now children.now k
         (walk_at (N.seen store.old) full.old (M.has memo.old))
-        (λ base rest target. Built T.makes base rest (level - 1) target r
-        (walk_at (N.seen store.new) full.new (M.has memo.new)))) }
-    ensures grows { OnOk result (ForOctant T.makes level task.now children.now k
+        (λ base rest target. WalkCame T.makes base rest (level - 1) target result
         (walk_at (N.seen store.old) full.old (M.has memo.old))
-        (λ base rest target. Grows target (N.seen store.old) (N.seen store.new))) }
-    ensures full { IfErr result (λ e. ForOctant T.makes level task.now children.now k
-        (walk_at (N.seen store.old) full.old (M.has memo.old))
-        (λ base rest target. RefusesBlock target e.level e.bucket (N.seen store.old)
-        (N.seen store.new))) }
-    ensures rest { OnErr result (ForOctant T.makes level task.now children.now k
-        (walk_at (N.seen store.old) full.old (M.has memo.old))
-        (λ base rest target. Aside (N.seen store.new).held full.new rest)) }
+        (walk_at (N.seen store.new) full.new (M.has memo.new))) }
     ensures rests { N.rests store.old store.new }
     ensures turns { OnOk result (steps.new + 16 * height full.old
         ≤ steps.old + 16 * height full.new + 1 + 25 * T.mixed_in level task.now k) }

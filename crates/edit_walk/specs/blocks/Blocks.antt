@@ -1,12 +1,13 @@
 -- Shares of blocks that a rebuild has in hand besides the rest of what is held, and what each
 -- outcome leaves.
-use Rattle.std.specs.Prelude.{◌≡◌, ℕ, ◌+◌, ◌-◌, ◌≤◌, Option, Some, None, List, ◌∷◌}
+use Rattle.std.specs.Prelude.{◌≡◌, ℕ, ◌+◌, ◌-◌, ◌≤◌, Option, Some, None, List, ◌∷◌, Result, Ok, Err}
 use Rattle.node_words.specs.declared.shapes.names.Name.{Name}
 use Rattle.node_words.specs.shapes.Shape.{Shape, IsCanonical, IsPart}
 use Rattle.node_words.specs.shapes.Tree.{Tree, root_of, shape_of, IsTreeAt}
 use Rattle.node_words.specs.shapes.Weights.{weigh, weight_of}
+use Rattle.node_words.specs.declared.shares.Full.{Full}
 use Rattle.node_words.specs.Held.{Seen, IsSought, IsReached, ReturnsWithin}
-use Rattle.node_words.specs.Gathering.{IsTreeOf, Comes, Grew, Gathered, MayHold, Loses}
+use Rattle.node_words.specs.Gathering.{IsTreeOf, Comes, Grew, Grows, Gathered, MayHold, Loses}
 use Rattle.node_words.specs.contents.CellShapes.{leaf_shape, full_shape}
 
 -- t is the tree of a full block of the name's level, and reached
@@ -56,6 +57,24 @@ pub record RefusesBlock (target : Shape) (level bucket : ℕ) (old new : Seen) :
   pub is_part : IsPart wanted target
   pub sought : IsSought old.plan (record { level = level; bucket = bucket; shape = wanted })
   pub met : new.met ≡ record { level = level; bucket = bucket; shape = wanted } ∷ old.met
+
+-- besides the rest and the full block aside a share of such a block came; parts of it may have been
+-- made, and nothing met a full bucket
+pub record CameTo (rest : List Tree) (level : ℕ) (target : Shape) (name : Option Name)
+    (old new : Seen) (after : Option Name) : Type 0 where
+  pub came : Came rest level target name new.held after
+  pub grows : Grows target old new
+
+-- or a part of it met this full bucket: the rest is held as it was, and a full block may be aside
+pub record StopsAt (rest : List Tree) (target : Shape) (full : Full) (old new : Seen)
+    (after : Option Name) : Type 0 where
+  pub refuses : RefusesBlock target full.level full.bucket old new
+  pub aside : Aside new.held after rest
+
+abbrev pub BlockCame : List Tree → ℕ → Shape → Result (Option Name) Full → Seen → Seen
+    → Option Name → Type 0
+BlockCame rest level target (Ok name) old new after = CameTo rest level target name old new after
+BlockCame rest level target (Err full) old new after = StopsAt rest target full old new after
 
 -- how many levels of full blocks there are, up to the one kept aside
 abbrev pub height : Option Name → ℕ
