@@ -5,10 +5,10 @@ use Rattle.vw_cell.specs.declared.cells.Cell.{Cell}
 use Rattle.node_words.specs.declared.shapes.names.Name.{Name}
 use Rattle.node_words.specs.declared.shares.Full.{Full}
 use Rattle.node_words.specs.Held.{Seen}
-use Rattle.edit_walk.specs.Edits.{MakesRoot}
+use Rattle.edit_walk.specs.Edits.{Rebuilds}
 
 pub made_as : (level : ℕ) (v w : Cell → Bool) (old new : Seen) → v ≡ w
-    → (result : Result (Option Name) Full) → MakesRoot level v result old new
-    → MakesRoot level w result old new
+    → (result : Result (Option Name) Full) → Rebuilds level v result old new
+    → Rebuilds level w result old new
 made_as level v w old new same result made =
-    subst (λ (u : Cell → Bool). MakesRoot level u result old new) same made
+    subst (λ (u : Cell → Bool). Rebuilds level u result old new) same made

@@ -34,13 +34,13 @@ pub record MadeRoot (level : ℕ) (world : Cell → Bool) (name : Option Name)
   pub came : Rebuilt level world name old new
   pub grows : Grows (world_shape level world) old new
 
-abbrev pub MakesRoot : ℕ → (Cell → Bool) → Result (Option Name) Full → Seen → Seen → Type 0
-MakesRoot level world (Ok name) old new = MadeRoot level world name old new
-MakesRoot level world (Err full) old new =
+abbrev pub Rebuilds : ℕ → (Cell → Bool) → Result (Option Name) Full → Seen → Seen → Type 0
+Rebuilds level world (Ok name) old new = MadeRoot level world name old new
+Rebuilds level world (Err full) old new =
     Fails (world_shape level world) full.level full.bucket old new
 
 -- so the edit was made of each world that the root shows
 abbrev pub Edits : Seen → ℕ → Option Name → ((Cell → Bool) → Cell → Bool)
     → Result (Option Name) Full → Seen → Type 0
 Edits old side root edit result new =
-    ForEdited old side root edit (λ world. MakesRoot (side - 2) world result old new)
+    ForEdited old side root edit (λ world. Rebuilds (side - 2) world result old new)

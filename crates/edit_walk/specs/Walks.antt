@@ -12,7 +12,7 @@ use Rattle.node_words.specs.contents.CellShapes.{Cells, shape_with}
 use Rattle.edit_walk.specs.declared.cells.tasks.Whole.{Whole}
 use Rattle.edit_walk.specs.cells.Tasks.{Making, IsWhole}
 use Rattle.edit_walk.specs.cells.Worlds.{world_cells}
-use Rattle.edit_walk.specs.blocks.Blocks.{Aside, Came, Gathers, StopsAt}
+use Rattle.edit_walk.specs.blocks.Blocks.{Aside, Came, Gathers, StopsAside}
 use Rattle.edit_walk.specs.Memos.{Keeping, Recalls}
 
 -- the state of a walk: what the store is seen as, the full block kept aside, and what is remembered
@@ -78,12 +78,12 @@ abbrev pub WalkCame : {T : Type 0} → (T → Making) → List Tree → List Tre
 WalkCame makes base rest level target (Ok name) old new =
     WalkedTo makes base rest level target name old new
 WalkCame makes base rest level target (Err full) old new =
-    StopsAt rest target full old.seen new.seen new.full
+    StopsAside rest target full old.seen new.seen new.full
 
 -- so the block with the task's cells was built
-abbrev pub Walks : {T : Type 0} → (T → Making) → ℕ → T → Walk T → Result (Option Name) Full
+abbrev pub WalksBlock : {T : Type 0} → (T → Making) → ℕ → T → Walk T → Result (Option Name) Full
     → Walk T → Type 0
-Walks makes level task old result new =
+WalksBlock makes level task old result new =
     ForBuilding makes level task old
     (λ base rest cells. WalkCame makes base rest level (shape_with level cells) result old new)
 
@@ -99,7 +99,7 @@ abbrev pub GatherCame : {T A : Type 0} → (T → Making) → List Tree → List
 GatherCame makes base rest level task cells children (Ok done) old new =
     GatheredAll makes base rest level task cells children old new
 GatherCame makes base rest level task cells children (Err full) old new =
-    StopsAt rest (shape_with level cells) full old.seen new.seen new.full
+    StopsAside rest (shape_with level cells) full old.seen new.seen new.full
 
 abbrev pub WalksOctants : {T A : Type 0} → (T → Making) → ℕ → T → Walk T → List (Option Name)
     → Result A Full → Walk T → Type 0

@@ -8,7 +8,7 @@ ghost use Rattle.edit_walk.specs.Edits.{MakesBlock};
 ghost use Rattle.edit_walk.specs.blocks.Blocks.{height, BlockCame};
 ghost use Rattle.edit_walk.specs.declared.memos.Kept.{Kept};
 ghost use Rattle.edit_walk.specs.Memos.{RecallsHeld};
-ghost use Rattle.edit_walk.specs.Walks.{walk_at, CanBuild, Walks, WalkCame, WalksOctants, CanGoOn, ForOctant, CanBeWhole, ForWhole};
+ghost use Rattle.edit_walk.specs.Walks.{walk_at, CanBuild, WalksBlock, WalkCame, WalksOctants, CanGoOn, ForOctant, CanBeWhole, ForWhole};
 
 use crate::blocks::{again, back_all, back_if, full_block, join, leaf, named, put};
 use crate::cells::{Task, Whole};
@@ -31,7 +31,7 @@ fn build<T: Task, M: Memo<T>, N: NodeStore, L: Ledger>(
     requires task { CanBuild T.makes level task.now
         (walk_at (N.seen store.old) full.old (M.has memo.old)) }
     requires room { number_of_trees (N.seen store.old).held + 9 * level ≤ 4000 }
-    ensures walked { Walks T.makes level task.now
+    ensures walked { WalksBlock T.makes level task.now
         (walk_at (N.seen store.old) full.old (M.has memo.old)) result
         (walk_at (N.seen store.new) full.new (M.has memo.new)) }
     ensures rests { N.rests store.old store.new }
@@ -68,7 +68,7 @@ fn fresh<T: Task, M: Memo<T>, N: NodeStore, L: Ledger>(
     requires room { number_of_trees (N.seen store.old).held + 9 * level ≤ 4000 }
     requires mixed { 1 ≤ level
         → 1 + sum_below 8 (T.mixed_in level task.now) ≤ T.mixed level task.now }
-    ensures walked { Walks T.makes level task.now
+    ensures walked { WalksBlock T.makes level task.now
         (walk_at (N.seen store.old) full.old (M.has memo.old)) result
         (walk_at (N.seen store.new) full.new (M.has memo.new)) }
     ensures rests { N.rests store.old store.new }
@@ -106,7 +106,7 @@ fn made<T: Task, M: Memo<T>, N: NodeStore, L: Ledger>(
     requires room { number_of_trees (N.seen store.old).held + 9 * level ≤ 4000 }
     requires mixed { 1 ≤ level
         → 1 + sum_below 8 (T.mixed_in level task.now) ≤ T.mixed level task.now }
-    ensures walked { Walks T.makes level task.now
+    ensures walked { WalksBlock T.makes level task.now
         (walk_at (N.seen store.old) full.old (M.has memo.old)) result
         (walk_at (N.seen store.new) full.new (M.has memo.new)) }
     ensures rests { N.rests store.old store.new }

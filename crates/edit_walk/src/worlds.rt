@@ -1,6 +1,6 @@
 ghost use Rattle.std.specs.Prelude.{◌≡◌, ◌+◌, ◌-◌, ◌*◌, ◌≤◌, ℕ, OnOk};
 ghost use Rattle.node_words.specs.shapes.Weights.{number_of_trees};
-ghost use Rattle.edit_walk.specs.Edits.{MakesRoot};
+ghost use Rattle.edit_walk.specs.Edits.{Rebuilds};
 ghost use Rattle.edit_walk.specs.Memos.{RecallsHeld};
 ghost use Rattle.edit_walk.specs.Walks.{MakesWorld, ForWorlds};
 
@@ -25,7 +25,7 @@ pub fn rebuild_world<T: Task, M: Memo<T>, N: NodeStore, L: Ledger>(
     requires task { MakesWorld (T.makes task.now) (N.seen store.old).held side }
     requires room { number_of_trees (N.seen store.old).held ≤ 3910 }
     ensures made { ForWorlds (T.makes task.now) (N.seen store.old).held side
-        (λ world. MakesRoot (side - 2) world result (N.seen store.old) (N.seen store.new)) }
+        (λ world. Rebuilds (side - 2) world result (N.seen store.old) (N.seen store.new)) }
     ensures memo { OnOk result (RecallsHeld T.makes (N.seen store.new).held (M.has memo.new)) }
     ensures rests { N.rests store.old store.new }
     ensures turns { OnOk result

@@ -19,7 +19,7 @@ use Rattle.node_words.specs.Gathering.{Comes}
 use Rattle.node_words.proofs.HeldLaws.{held_reached, reached_levels}
 use Rattle.node_words.specs.contents.CellShapes.{Cells, SameIn, octant_cells}
 use Rattle.node_words.specs.descent.Roots.{HoldsRoot}
-use Rattle.edit_walk.specs.Edits.{MakesBlock, MakesRoot}
+use Rattle.edit_walk.specs.Edits.{MakesBlock, Rebuilds}
 use Rattle.edit_walk.specs.cells.Paints.{IsOld}
 use Rattle.edit_walk.specs.cells.Worlds.{ShowsWorld, block_at_origin, world_cells, world_shape, IsRoot, IsEmptyWorld, Rebuilt, cells_from}
 use Rattle.edit_walk.specs.cells.Tasks.{blocks_in}
@@ -172,7 +172,7 @@ comes_rebuilt old new level world name c =
 -- or it met a full bucket
 pub root_made : (old new : Seen) (level : ℕ) (world : Cell → Bool)
     (result : Result (Option Name) Full) → MakesBlock level (world_shape level world) result old new
-    → MakesRoot level world result old new
+    → Rebuilds level world result old new
 root_made old new level world (Ok name) made = record {
   came = comes_rebuilt old new level world name made.came;
   grows = made.grows;

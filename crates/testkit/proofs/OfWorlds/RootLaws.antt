@@ -11,7 +11,7 @@ use Rattle.node_words.specs.declared.shares.Full.{Full}
 use Rattle.node_words.specs.Held.{Seen, HoldsName}
 use Rattle.node_words.specs.Gathering.{MayHold, Loses}
 use Rattle.node_words.specs.descent.Roots.{HoldsRoot}
-use Rattle.edit_walk.specs.Edits.{MayEdit, Edits, MakesRoot}
+use Rattle.edit_walk.specs.Edits.{MayEdit, Edits, Rebuilds}
 use Rattle.edit_walk.specs.cells.Worlds.{Rebuilt}
 use Rattle.edit_walk.proofs.OfCells.WorldLaws.{root_shown}
 use Rattle.one_store.specs.Known.{Known, stored_root, root_tree}
@@ -128,7 +128,7 @@ edited_plan old new side root edit result h edits =
     plan_of result (edits before w)
     where
       plan_of : (r : Result (Option Name) Full) {world : Cell → Bool}
-          → MakesRoot (side - 2) world r old new → new.plan ≡ old.plan
+          → Rebuilds (side - 2) world r old new → new.plan ≡ old.plan
       plan_of (Ok name) made = made.grows.plan
       plan_of (Err full) fails = fails.plan
 

@@ -66,10 +66,10 @@ made-returns-in-Ok-clause-walked g t c base rest cells b =
     record {
       built = came_built _ base rest _ _ _ _ b.recalls
           (leaf_done c.args.level c.bits-bits.result cells rest _ _ _ e target
-          (c.in-Ok.ensures.ok rest _
+          (c.in-Ok.ensures.made.came rest _
           (subst (λ (v : Seen). Aside v.held c.args.full.now rest)
           (sym c.bits-bits.ensures.seen) b.starts.aside)));
-      grows = target_grows _ _ _ _ _ target c.bits-bits.ensures.seen c.in-Ok.ensures.grows;
+      grows = target_grows _ _ _ _ _ target c.bits-bits.ensures.seen c.in-Ok.ensures.made.grows;
     }
 
 pub made-returns-in-Err-clause-walked : goal.made-returns-in-Err-clause-walked
@@ -81,9 +81,9 @@ made-returns-in-Err-clause-walked g t c base rest cells b =
     let target = leaf_target c.args.level c.bits-bits.result cells e small same in
     record {
       refuses = target_refuses _ _ _ _ _ _ _ refl c.bits-bits.ensures.seen
-          (meets_refuses _ _ _ _ _ _ target c.in-Err.ensures.full);
+          (meets_refuses _ _ _ _ _ _ target c.in-Err.ensures.made);
       aside = aside_same _ _ _ rest
-          (c.in-Err.ensures.full.held
+          (c.in-Err.ensures.made.held
           ∙ ap (λ (v : Seen). v.held) c.bits-bits.ensures.seen) b.starts.aside;
     }
 
@@ -113,22 +113,21 @@ made-join-requires-clause-room g t c =
 pub made-returns-in-Ok-join-clause-walked : goal.made-returns-in-Ok-join-clause-walked
 made-returns-in-Ok-join-clause-walked g t c base rest cells b =
     let all = c.in-Ok-gather.ensures.walked base rest cells b in
-    let canonical = shape_with-canonical c.args.level cells in
+    let to = c.in-Ok-join.ensures.joined rest _ _ (shape_with-canonical c.args.level cells)
+    all.partway.gathers in
     record {
-      built = joined_built _ base rest _ _ _ _ _ all.partway.recalls
-          (c.in-Ok-join.ensures.ok rest _ _ canonical all.partway.gathers);
-      grows = grows_on _ _ _ _ all.grows
-          (c.in-Ok-join.ensures.grows rest _ _ canonical all.partway.gathers);
+      built = joined_built _ base rest _ _ _ _ _ all.partway.recalls to.joined;
+      grows = grows_on _ _ _ _ all.grows to.grows;
     }
 
 pub made-returns-in-Err-join-clause-walked : goal.made-returns-in-Err-join-clause-walked
 made-returns-in-Err-join-clause-walked g t c base rest cells b =
     let all = c.in-Ok-gather.ensures.walked base rest cells b in
-    let canonical = shape_with-canonical c.args.level cells in
+    let stops = c.in-Err-join.ensures.joined rest _ _ (shape_with-canonical c.args.level cells)
+    all.partway.gathers in
     record {
-      refuses = refuses_after _ _ _ _ _ _ all.grows
-          (c.in-Err-join.ensures.full rest _ _ canonical all.partway.gathers);
-      aside = c.in-Err-join.ensures.back rest _ _ canonical all.partway.gathers;
+      refuses = refuses_after _ _ _ _ _ _ all.grows stops.refuses;
+      aside = stops.aside;
     }
 
 pub made-returns-in-Ok-join-clause-turns : goal.made-returns-in-Ok-join-clause-turns
