@@ -14,11 +14,11 @@ pub returns-in-Nothing-clause-came : goal.returns-in-Nothing-clause-came
 returns-in-Nothing-clause-came g c base rest cells s w =
     elim c.in-Nothing.is [
       | inl e ↦ record {
-          came = came_none _ rest _ c.args.level _ s.aside
-              (shape_with-none c.args.level cells
-              (subst (λ (u : Whole). IsWhole base c.args.level cells u) e w));
-          grows = grows_none _ _;
-        }
+        came = came_none _ rest _ c.args.level _ s.aside
+            (shape_with-none c.args.level cells
+            (subst (λ (u : Whole). IsWhole base c.args.level cells u) e w));
+        grows = grows_none _ _;
+      }
       | inr e ↦ absurd (c.requires.whole e)
     ]
 
