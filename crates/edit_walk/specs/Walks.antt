@@ -1,5 +1,5 @@
 -- What a walk over the blocks of a rebuild starts from, and what it leaves for each outcome.
-use Rattle.std.specs.Prelude.{ℕ, ◌-◌, Bool, Option, List, Result, Ok, Err}
+use Rattle.std.specs.Prelude.{ℕ, ◌+◌, ◌-◌, ◌*◌, ◌≤◌, max, Bool, Option, List, Result, Ok, Err}
 use Rattle.vw_cell.specs.declared.cells.Cell.{Cell}
 use Rattle.node_words.specs.declared.shapes.names.Name.{Name}
 use Rattle.node_words.specs.shapes.Shape.{Shape, octant_shape}
@@ -12,7 +12,7 @@ use Rattle.node_words.specs.contents.CellShapes.{Cells, shape_with}
 use Rattle.edit_walk.specs.declared.cells.tasks.Whole.{Whole}
 use Rattle.edit_walk.specs.cells.Tasks.{Making, IsWhole}
 use Rattle.edit_walk.specs.cells.Worlds.{world_cells}
-use Rattle.edit_walk.specs.blocks.Blocks.{Aside, Came, Gathers, StopsAside}
+use Rattle.edit_walk.specs.blocks.Blocks.{Aside, Came, Gathers, StopsAside, height}
 use Rattle.edit_walk.specs.Memos.{Keeping, Recalls}
 
 -- the state of a walk: what the store is seen as, the full block kept aside, and what is remembered
@@ -106,6 +106,12 @@ abbrev pub WalksOctants : {T A : Type 0} → (T → Making) → ℕ → T → Wa
 WalksOctants makes level task old children result new =
     ForBuilding makes level task old
     (λ base rest cells. GatherCame makes base rest level task cells children result old new)
+
+-- so many turns beside 16 for each level by which the full block aside grew, and 25 for each mixed
+-- block; and how high it is now
+pub record TookTurns (own top mixed : ℕ) (before after : Option Name) (old new : ℕ) : Type 0 where
+  pub turns : new + 16 * height before ≤ old + 16 * height after + own + 25 * mixed
+  pub height_is : height after ≤ max (height before) top
 
 -- shares of the octants before octant k are in hand
 abbrev pub CanGoOn : {T : Type 0} → (T → Making) → ℕ → T → List (Option Name) → ℕ → Walk T → Type 0

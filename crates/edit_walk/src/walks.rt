@@ -1,14 +1,14 @@
-ghost use Rattle.std.specs.Prelude.{◌≡◌, ◌≢◌, ◌+◌, ◌*◌, ◌-◌, ◌^◌, ◌<◌, ◌≤◌, ℕ, None, OnOk, OnErr, max, replicate};
+ghost use Rattle.std.specs.Prelude.{◌≡◌, ◌≢◌, ◌+◌, ◌*◌, ◌-◌, ◌^◌, ◌<◌, ◌≤◌, ℕ, None, OnOk, OnErr, replicate};
 ghost use Rattle.vw_cell.specs.Sums.{sum_below};
 ghost use Rattle.node_words.specs.shapes.Weights.{number_of_trees};
 ghost use Rattle.node_words.specs.Held.{name_in};
 ghost use Rattle.node_words.specs.contents.CellShapes.{shape_with};
 ghost use Rattle.edit_walk.specs.cells.Tasks.{MakesCells, ForCells};
 ghost use Rattle.edit_walk.specs.Edits.{MakesBlock};
-ghost use Rattle.edit_walk.specs.blocks.Blocks.{height, BlockCame};
+ghost use Rattle.edit_walk.specs.blocks.Blocks.{BlockCame};
 ghost use Rattle.edit_walk.specs.declared.memos.Kept.{Kept};
 ghost use Rattle.edit_walk.specs.Memos.{RecallsHeld};
-ghost use Rattle.edit_walk.specs.Walks.{walk_at, CanBuild, WalksBlock, WalkCame, WalksOctants, CanGoOn, ForOctant, CanBeWhole, ForWhole};
+ghost use Rattle.edit_walk.specs.Walks.{walk_at, CanBuild, TookTurns, WalksBlock, WalkCame, WalksOctants, CanGoOn, ForOctant, CanBeWhole, ForWhole};
 
 use crate::blocks::{again, back_all, back_if, full_block, join, leaf, named, put};
 use crate::cells::{Task, Whole};
@@ -35,9 +35,8 @@ fn build<T: Task, M: Memo<T>, N: NodeStore, L: Ledger>(
         (walk_at (N.seen store.old) full.old (M.has memo.old)) result
         (walk_at (N.seen store.new) full.new (M.has memo.new)) }
     ensures rests { N.rests store.old store.new }
-    ensures turns { OnOk result (steps.new + 16 * height full.old
-        ≤ steps.old + 16 * height full.new + 1 + 25 * T.mixed level task.now) }
-    ensures height { OnOk result (height full.new ≤ max (height full.old) (level + 1)) }
+    ensures took { OnOk result (TookTurns 1 (level + 1) (T.mixed level task.now) full.old full.new
+        steps.old steps.new) }
 {
     let whole = task.whole(level);
     if !whole.is_mixed() {
@@ -72,9 +71,8 @@ fn fresh<T: Task, M: Memo<T>, N: NodeStore, L: Ledger>(
         (walk_at (N.seen store.old) full.old (M.has memo.old)) result
         (walk_at (N.seen store.new) full.new (M.has memo.new)) }
     ensures rests { N.rests store.old store.new }
-    ensures turns { OnOk result (steps.new + 16 * height full.old
-        ≤ steps.old + 16 * height full.new + 1 + 25 * T.mixed level task.now) }
-    ensures height { OnOk result (height full.new ≤ max (height full.old) (level + 1)) }
+    ensures took { OnOk result (TookTurns 1 (level + 1) (T.mixed level task.now) full.old full.new
+        steps.old steps.new) }
 {
     match made(store, level, task, full, memo, steps) {
         Ok(share) => {
@@ -110,9 +108,8 @@ fn made<T: Task, M: Memo<T>, N: NodeStore, L: Ledger>(
         (walk_at (N.seen store.old) full.old (M.has memo.old)) result
         (walk_at (N.seen store.new) full.new (M.has memo.new)) }
     ensures rests { N.rests store.old store.new }
-    ensures turns { OnOk result (steps.new + 16 * height full.old
-        ≤ steps.old + 16 * height full.new + 1 + 25 * T.mixed level task.now) }
-    ensures height { OnOk result (height full.new ≤ max (height full.old) (level + 1)) }
+    ensures took { OnOk result (TookTurns 1 (level + 1) (T.mixed level task.now) full.old full.new
+        steps.old steps.new) }
 {
     if level == 0 {
         let bits = task.bits(store);
@@ -151,9 +148,7 @@ fn known<N: NodeStore, L: Ledger>(
         (λ rest target. BlockCame rest level target result (N.seen store.old) (N.seen store.new)
         full.new) }
     ensures rests { N.rests store.old store.new }
-    ensures turns { OnOk result
-        (steps.new + 16 * height full.old ≤ steps.old + 16 * height full.new + 1) }
-    ensures height { OnOk result (height full.new ≤ max (height full.old) (level + 1)) }
+    ensures took { OnOk result (TookTurns 1 (level + 1) 0 full.old full.new steps.old steps.new) }
 {
     match whole {
         Whole::Nothing | Whole::Mixed => Ok(None),
@@ -187,9 +182,8 @@ fn gather<T: Task, M: Memo<T>, N: NodeStore, L: Ledger>(
         (walk_at (N.seen store.new) full.new (M.has memo.new)) }
     ensures none { OnErr result ((k : ℕ) → k < 8 → name_in children.new k ≡ None) }
     ensures rests { N.rests store.old store.new }
-    ensures turns { OnOk result (steps.new + 16 * height full.old
-        ≤ steps.old + 16 * height full.new + 8 + 25 * sum_below 8 (T.mixed_in level task.now)) }
-    ensures height { OnOk result (height full.new ≤ max (height full.old) level) }
+    ensures took { OnOk result (TookTurns 8 level (sum_below 8 (T.mixed_in level task.now)) full.old
+        full.new steps.old steps.new) }
 {
     for k in 0..8usize {
         match octant(store, level, task, k as u8, children, full, memo, steps) {
@@ -235,9 +229,8 @@ fn octant<T: Task, M: Memo<T>, N: NodeStore, L: Ledger>(
         (walk_at (N.seen store.old) full.old (M.has memo.old))
         (walk_at (N.seen store.new) full.new (M.has memo.new))) }
     ensures rests { N.rests store.old store.new }
-    ensures turns { OnOk result (steps.new + 16 * height full.old
-        ≤ steps.old + 16 * height full.new + 1 + 25 * T.mixed_in level task.now k) }
-    ensures height { OnOk result (height full.new ≤ max (height full.old) level) }
+    ensures took { OnOk result (TookTurns 1 level (T.mixed_in level task.now k) full.old full.new
+        steps.old steps.new) }
 {
     let part = task.octant(store, level, k);
     match build(store, level - 1, &part, full, memo, steps) {

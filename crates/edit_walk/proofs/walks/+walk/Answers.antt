@@ -130,10 +130,18 @@ made-returns-in-Err-join-clause-walked g t c base rest cells b =
       aside = stops.aside;
     }
 
-pub made-returns-in-Ok-join-clause-turns : goal.made-returns-in-Ok-join-clause-turns
-made-returns-in-Ok-join-clause-turns g t c =
+pub made-returns-in-Ok-join-clause-took : goal.made-returns-in-Ok-join-clause-took
+made-returns-in-Ok-join-clause-took g t c =
     let one : 1 ≤ c.args.level = omega arith in
-    omega (arith, c.in-Ok-gather.ensures.turns, c.in-Ok-join.ensures.turns, c.requires.mixed one)
+    record {
+      turns = omega (
+        arith,
+        c.in-Ok-gather.ensures.took.turns,
+        c.in-Ok-join.ensures.turns,
+        c.requires.mixed one,
+      );
+      height_is = omega (arith, c.in-Ok-gather.ensures.took.height_is);
+    }
 
 pub gather-loop-k-init : goal.gather-loop-k-init
 gather-loop-k-init g t c = record {
@@ -243,8 +251,8 @@ gather-loop-k-preserved g t c =
     let e : sum_below (c.loop-k.k + 1) f ≡ sum_below c.loop-k.k f + f c.loop-k.k =
     rw add-one (sum_below-suc c.loop-k.k f) in
     record {
-      turns = omega (arith, e, c.loop-k.invariant.turns, c.in-Ok.ensures.turns);
-      height_is = omega (arith, c.loop-k.invariant.height_is, c.in-Ok.ensures.height);
+      turns = omega (arith, e, c.loop-k.invariant.turns, c.in-Ok.ensures.took.turns);
+      height_is = omega (arith, c.loop-k.invariant.height_is, c.in-Ok.ensures.took.height_is);
       partway = λ base rest cells b.
           let p = c.loop-k.invariant.partway base rest cells b in
           partway_one _ base rest _ _ cells _ _ c.loop-k.k c.in-Ok.share _ _

@@ -80,7 +80,7 @@ returns-in-Ok-clause-turns g c =
     back_turns _ c.build.new.full w.aside.tree _ _ c.back_if.ensures.none
     (λ n e. c.back_if.ensures.turns w.aside.tree n e w.aside.root
     (aside_may _ _ _ w.aside)) w.aside.shape in
-    omega (arith, b, c.in-Ok.ensures.turns, c.in-Ok.ensures.height)
+    omega (arith, b, c.in-Ok.ensures.took.turns, c.in-Ok.ensures.took.height_is)
 
 pub returns-in-Ok-clause-memo : goal.returns-in-Ok-clause-memo
 returns-in-Ok-clause-memo g c =
