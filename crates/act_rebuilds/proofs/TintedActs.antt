@@ -41,14 +41,14 @@ tints_make old new side root models t stencil large ink result made =
     acts_parts result
     (subst (λ (parts : ℕ → World → World). MakesParts old side root parts (part_number t) result new)
     (parts_as side models t stencil large ink) made)
-    where
-      acts_parts : (r : Result (Option Name) Full)
-          → MakesParts old side root (edit_parts (2 ^ side) models (acts.Tint t)) (part_number t) r
-          new
-          → MakesAct old side root models (acts.Tint t) r new
-      acts_parts (Ok name) m = λ before shows.
-          record { came = m.came before shows; grows = m.grown before shows }
-      acts_parts (Err full) m = m
+  where
+    acts_parts : (r : Result (Option Name) Full)
+        → MakesParts old side root (edit_parts (2 ^ side) models (acts.Tint t)) (part_number t) r
+        new
+        → MakesAct old side root models (acts.Tint t) r new
+    acts_parts (Ok name) m = λ before shows.
+        record { came = m.came before shows; grows = m.grown before shows }
+    acts_parts (Err full) m = m
 
 -- a stamp fits where its model does, which has the stencil's size
 model_fits : (n : ℕ) (models : List Content) (m : ℕ) (at : Cell) (model : Content) (inked : Inked)

@@ -126,11 +126,11 @@ pub edited_plan : (old new : Seen) (side : ℕ) (root : Option Name)
 edited_plan old new side root edit result h edits =
     let (before, w) = root_shown old.held side root (only_root old.held side root h) in
     plan_of result (edits before w)
-    where
-      plan_of : (r : Result (Option Name) Full) {world : Cell → Bool}
-          → Rebuilds (side - 2) world r old new → new.plan ≡ old.plan
-      plan_of (Ok name) made = made.grows.plan
-      plan_of (Err full) fails = fails.plan
+  where
+    plan_of : (r : Result (Option Name) Full) {world : Cell → Bool}
+        → Rebuilds (side - 2) world r old new → new.plan ≡ old.plan
+    plan_of (Ok name) made = made.grows.plan
+    plan_of (Err full) fails = fails.plan
 
 -- one of two roots may go back, and then the other is held alone
 pub old_may : (held : List Tree) (level : ℕ) (old new : Option Name)
