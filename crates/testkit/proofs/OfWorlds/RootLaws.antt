@@ -1,17 +1,16 @@
 -- Roots that a test holds.
 use Rattle.std.proofs.Common.{Bool, ◌≡◌, ℕ, ◌-◌, ◌≤◌, Some, None, Option, List, [], ◌∷◌, refl, sym, ◌∙◌, ap, arith}
-use Rattle.std.specs.Prelude.{IfSome, Result, Ok, Err}
+use Rattle.std.specs.Prelude.{IfSome, Ok}
 use Rattle.vw_cell.specs.declared.cells.Cell.{Cell}
 use Rattle.node_words.specs.declared.shapes.names.Name.{Name}
 use Rattle.node_words.specs.shapes.Tree.{Tree, Gone, root_of}
 use Rattle.node_words.specs.shapes.Weights.{weigh, weight_of, number_of_trees}
 use Rattle.node_words.proofs.OfShapes.TreeLaws.{level_of}
 use Rattle.node_words.proofs.OfShapes.WeightLaws.{weight_of-there, weight_of-gone, weight_below-one, weigh-nil, weigh-cons}
-use Rattle.node_words.specs.declared.shares.Full.{Full}
 use Rattle.node_words.specs.Held.{Seen, HoldsName}
 use Rattle.node_words.specs.Gathering.{MayHold, Loses}
 use Rattle.node_words.specs.descent.Roots.{HoldsRoot}
-use Rattle.edit_walk.specs.Edits.{MayEdit, Edits, Rebuilds}
+use Rattle.edit_walk.specs.Edits.{MayEdit, Edits}
 use Rattle.edit_walk.specs.cells.Worlds.{Rebuilt}
 use Rattle.edit_walk.proofs.OfCells.WorldLaws.{root_shown}
 use Rattle.one_store.specs.Known.{Known, stored_root, root_tree}
@@ -111,26 +110,6 @@ pub edited_two : (old new : Seen) (side : ℕ) (root name : Option Name)
 edited_two old new side root name edit h edits =
     let (before, w) = root_shown old.held side root (only_root old.held side root h) in
     rebuilt_two old new side root name (edit before) h (edits before w).came
-
-pub edited_none : (old new : Seen) (side : ℕ) (root : Option Name)
-    (edit : (Cell → Bool) → Cell → Bool) (full : Full) → HoldsOnly old.held (side - 2) root
-    → Edits old side root edit (Err full) new → HoldsOnly new.held (side - 2) root
-edited_none old new side root edit full h edits =
-    let (before, w) = root_shown old.held side root (only_root old.held side root h) in
-    same_only old.held new.held (side - 2) root (edits before w).held h
-
-pub edited_plan : (old new : Seen) (side : ℕ) (root : Option Name)
-    (edit : (Cell → Bool) → Cell → Bool) (result : Result (Option Name) Full)
-    → HoldsOnly old.held (side - 2) root → Edits old side root edit result new
-    → new.plan ≡ old.plan
-edited_plan old new side root edit result h edits =
-    let (before, w) = root_shown old.held side root (only_root old.held side root h) in
-    plan_of result (edits before w)
-  where
-    plan_of : (r : Result (Option Name) Full) {world : Cell → Bool}
-        → Rebuilds (side - 2) world r old new → new.plan ≡ old.plan
-    plan_of (Ok name) made = made.grows.plan
-    plan_of (Err full) fails = fails.plan
 
 -- one of two roots may go back, and then the other is held alone
 pub old_may : (held : List Tree) (level : ℕ) (old new : Option Name)

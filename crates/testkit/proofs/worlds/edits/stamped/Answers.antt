@@ -1,5 +1,5 @@
-use Rattle.std.proofs.Common.{Ok, Err}
-use Rattle.testkit.proofs.OfWorlds.RootLaws.{only_edit, edited_two, edited_none, edited_plan}
+use Rattle.edit_walk.proofs.OfCells.WorldLaws.{root_shown}
+use Rattle.testkit.proofs.OfWorlds.RootLaws.{only_edit, only_root, edited_two, same_only}
 use Rattle.testkit.proofs.worlds.edits.stamped.Goals as goal
 
 pub rebuild_stamp-requires-clause-may : goal.rebuild_stamp-requires-clause-may
@@ -10,12 +10,15 @@ returns-in-Ok-clause-ok g c = edited_two _ _ c.args.side _ _ _ c.requires.only c
 
 pub returns-in-Ok-clause-plan : goal.returns-in-Ok-clause-plan
 returns-in-Ok-clause-plan g c =
-    edited_plan _ _ c.args.side _ _ (Ok c.in-Ok.share) c.requires.only c.in-Ok.ensures.made
+    let (before, w) = root_shown _ c.args.side _ (only_root _ c.args.side _ c.requires.only) in
+    (c.in-Ok.ensures.made before w).grows.plan
 
 pub returns-in-Err-clause-refused : goal.returns-in-Err-clause-refused
 returns-in-Err-clause-refused g c =
-    edited_none _ _ c.args.side _ _ c.in-Err.full c.requires.only c.in-Err.ensures.made
+    let (before, w) = root_shown _ c.args.side _ (only_root _ c.args.side _ c.requires.only) in
+    same_only _ _ _ _ (c.in-Err.ensures.made before w).held c.requires.only
 
 pub returns-in-Err-clause-plan : goal.returns-in-Err-clause-plan
 returns-in-Err-clause-plan g c =
-    edited_plan _ _ c.args.side _ _ (Err c.in-Err.full) c.requires.only c.in-Err.ensures.made
+    let (before, w) = root_shown _ c.args.side _ (only_root _ c.args.side _ c.requires.only) in
+    (c.in-Err.ensures.made before w).plan
