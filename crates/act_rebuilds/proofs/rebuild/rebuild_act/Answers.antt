@@ -70,10 +70,13 @@ rebuild_tint-requires-clause-fits g c =
     one_ink_fits c.args.side c.args.models.now.models c.args.act c.in-Tint.t c.in-Tint.is _
     c.requires.may.large c.ink-ink.ensures c.requires.may.fits
 
-pub rebuild_tint-requires-clause-room : goal.rebuild_tint-requires-clause-room
-rebuild_tint-requires-clause-room g c =
-    one_room c.args.side c.args.models.now.models c.args.act c.in-Tint.t c.in-Tint.is _
-    c.requires.may.room
+pub rebuild_tint-requires-clause-may : goal.rebuild_tint-requires-clause-may
+rebuild_tint-requires-clause-may g c = record {
+  side_is = c.requires.may.side_is;
+  root_is = c.requires.may.root_is;
+  room = one_room c.args.side c.args.models.now.models c.args.act c.in-Tint.t c.in-Tint.is _
+      c.requires.may.room;
+}
 
 pub returns-in-Tint-clause-made : goal.returns-in-Tint-clause-made
 returns-in-Tint-clause-made g c =
