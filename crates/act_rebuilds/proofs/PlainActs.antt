@@ -13,10 +13,10 @@ use Rattle.history_model.specs.declared.acts.Act.TheVariants.{Fill, Erase, Ball,
 use Rattle.history_model.specs.Worlds.{World, edited}
 use Rattle.history_model.specs.Logs.{suits_tints}
 use Rattle.history_model.specs.Stores.{edited_in, edit_parts, edit_part_number}
-use Rattle.edit_stamp.specs.Worlds.{world_shape}
+use Rattle.edit_walk.specs.Edits.{Edits}
+use Rattle.edit_walk.specs.cells.Worlds.{Rebuilt, world_shape}
 use Rattle.colour.specs.Made.{IsOfParts, GrowsBy, FailsBy}
-use Rattle.colour.specs.Edits.{RebuildsEdit, GrowsByEdit, RefusesEdit}
-use Rattle.act_rebuilds.specs.Acts.{IsOfAct, MakesAct, RebuildsAct, GrowsByAct, RefusesAct}
+use Rattle.act_rebuilds.specs.Acts.{IsOfAct, MakesAct}
 
 no_tint : {A : Type 0} → false ≡ true → A
 no_tint e = absurd (let no : ⊥ = cc in no)
@@ -91,37 +91,18 @@ module _ (old new : Seen) (side : ℕ) (root : Option Name) (models : List Conte
     held = f.held;
   }
 
-  pub plainly_rebuilds : (result : Result (Option Name) Full)
-      → RebuildsEdit old side root (edited models act) result new
-      → RebuildsAct old side root models act result new
-  plainly_rebuilds result h =
-      subst (λ (f : World → World). RebuildsEdit old side root f result new)
-      (edit_as (2 ^ side) models act e) h
-
-  pub plainly_grows : (result : Result (Option Name) Full)
-      → GrowsByEdit old side root (edited models act) result new
-      → GrowsByAct old side root models act result new
-  plainly_grows (Ok name) h = λ before shows. grows_by before (h before shows)
-  plainly_grows (Err full) h = tt
-
-  pub plainly_refuses : (result : Result (Option Name) Full)
-      → RefusesEdit old side root (edited models act) result new
-      → RefusesAct old side root models act result new
-  plainly_refuses (Ok name) h = tt
-  plainly_refuses (Err full) h = λ before shows.
-      fails_by before full.level full.bucket (h before shows)
-
   pub plainly_makes : (result : Result (Option Name) Full)
-      → RebuildsEdit old side root (edited models act) result new
-      → GrowsByEdit old side root (edited models act) result new
-      → RefusesEdit old side root (edited models act) result new
+      → Edits old side root (edited models act) result new
       → MakesAct old side root models act result new
-  plainly_makes (Ok name) rebuilds grows refuses = λ before shows. record {
-    came = plainly_rebuilds (Ok name) rebuilds before shows;
-    grows = grows_by before (grows before shows);
-  }
-  plainly_makes (Err full) rebuilds grows refuses = λ before shows.
-      fails_by before full.level full.bucket (refuses before shows)
+  plainly_makes (Ok name) edits = λ before shows.
+      let made = edits before shows in
+      record {
+        came = subst (λ (f : World → World). Rebuilt (side - 2) (f before) name old new)
+            (edit_as (2 ^ side) models act e) made.came;
+        grows = grows_by before made.grows;
+      }
+  plainly_makes (Err full) edits = λ before shows.
+      fails_by before full.level full.bucket (edits before shows)
 
 -- of an act that is this one
 pub one_makes : (old new : Seen) (side : ℕ) (root : Option Name) (models : List Content)
@@ -132,11 +113,8 @@ one_makes old new side root models act one result is h =
 
 pub edit_makes : (old new : Seen) (side : ℕ) (root : Option Name) (models : List Content)
     (act one : Act) (result : Result (Option Name) Full) → act ≡ one
-    → suits_tints false one ≡ true
-    → RebuildsEdit old side root (edited models one) result new
-    → GrowsByEdit old side root (edited models one) result new
-    → RefusesEdit old side root (edited models one) result new
+    → suits_tints false one ≡ true → Edits old side root (edited models one) result new
     → MakesAct old side root models act result new
-edit_makes old new side root models act one result is plain rebuilds grows refuses =
+edit_makes old new side root models act one result is plain edits =
     one_makes old new side root models act one result is
-    (plainly_makes old new side root models one plain result rebuilds grows refuses)
+    (plainly_makes old new side root models one plain result edits)

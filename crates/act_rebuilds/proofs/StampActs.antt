@@ -15,7 +15,7 @@ use Rattle.history_model.specs.declared.acts.Act.TheVariants.{Stamp}
 use Rattle.edit_stamp.specs.Drawings.{Drawn}
 use Rattle.edit_stamp.specs.Stamps.{stamped}
 use Rattle.edit_stamp.proofs.StampLaws.{stamps_model}
-use Rattle.colour.specs.Edits.{RebuildsEdit, GrowsByEdit, RefusesEdit}
+use Rattle.edit_walk.specs.Edits.{Edits}
 use Rattle.act_rebuilds.specs.Acts.{MakesAct}
 use Rattle.act_rebuilds.specs.Drawn.{DrawsNumber}
 use Rattle.act_rebuilds.proofs.PlainActs.{edit_makes}
@@ -34,16 +34,12 @@ stamped_as models m drawn at d = λ i before.
 module _ (old new : Seen) (side : ℕ) (root : Option Name) (models : List Content) (act : Act)
     (m : ℕ) (at : Cell) (drawn : Drawn) (result : Result (Option Name) Full)
     (is : act ≡ Stamp m at) (d : DrawsNumber models m drawn) where
-  pub stamp_makes : RebuildsEdit old side root (stamped drawn at) result new
-      → GrowsByEdit old side root (stamped drawn at) result new
-      → RefusesEdit old side root (stamped drawn at) result new
+  pub stamp_makes : Edits old side root (stamped drawn at) result new
       → MakesAct old side root models act result new
-  stamp_makes rebuilds grows refuses =
-      let same : stamped drawn at ≡ edited models (Stamp m at) = stamped_as models m drawn at d in
+  stamp_makes edits =
       edit_makes old new side root models act (Stamp m at) result is refl
-      (subst (λ (f : World → World). RebuildsEdit old side root f result new) same rebuilds)
-      (subst (λ (f : World → World). GrowsByEdit old side root f result new) same grows)
-      (subst (λ (f : World → World). RefusesEdit old side root f result new) same refuses)
+      (subst (λ (f : World → World). Edits old side root f result new)
+      (stamped_as models m drawn at d) edits)
 
 -- which lies in the world where the act fits, as the model has the drawing's size
 pub stamp_inside : (n : ℕ) (models : List Content) (act : Act) (m : ℕ) (at : Cell) (drawn : Drawn)

@@ -1,6 +1,6 @@
 -- A tinted act with a stencil of the model that it names makes the parts of the act.
 use Rattle.std.proofs.Common.{◌≡◌, ℕ, ◌-◌, ◌/◌, ◌^◌, ◌≤◌, Option, Some, None, List, Ok, Err, refl, sym, ◌∙◌, ap, subst, arith}
-use Rattle.std.specs.Prelude.{Result, IfOk, IfErr}
+use Rattle.std.specs.Prelude.{Result}
 use Rattle.std.specs.List.{slice_get}
 use Rattle.vw_cell.specs.declared.cells.Cell.{Cell}
 use Rattle.vw_cell.specs.Places.{FitsAt}
@@ -18,7 +18,7 @@ use Rattle.history_model.specs.Logs.{FitsModel, FitsWorld, TintFits}
 use Rattle.history_model.specs.Parts.{part, part_number}
 use Rattle.history_model.specs.Stores.{edit_parts}
 use Rattle.colour.specs.Inks.{Inked, DrawsTints, FitsInk, HasInk, parts_in}
-use Rattle.colour.specs.Made.{PartsMade, PartsFail}
+use Rattle.colour.specs.Made.{MakesParts}
 use Rattle.colour.proofs.Quarters.{quarter_is}
 use Rattle.colour.proofs.TintedLaws.{ink_is}
 use Rattle.act_rebuilds.specs.Acts.{IsLargeFor, room_for, MakesAct}
@@ -32,28 +32,23 @@ parts_as side models t stencil large ink =
     ∙ ap (λ (n : ℕ). part n (ink_of models t) t)
     (sym (quarter_is side (2 ^ side) (omega (arith, large)) refl))
 
-module _ (old new : Seen) (side : ℕ) (root : Option Name) (models : List Content) (t : TintAct)
-    (stencil : Option Inked) (large : 4 ≤ side) (ink : HasInk models t stencil) where
-  made_parts : (name : Option Name)
-      → PartsMade old side root (parts_in (2 ^ (side - 2)) t stencil) (part_number t) name new
-      → PartsMade old side root (edit_parts (2 ^ side) models (acts.Tint t))
-      (part_number t) name new
-  made_parts name made =
-      subst (λ (parts : ℕ → World → World). PartsMade old side root parts (part_number t) name new)
-      (parts_as side models t stencil large ink) made
-
-  pub tints_make : (result : Result (Option Name) Full)
-      → IfOk result (λ r. PartsMade old side root (parts_in (2 ^ (side - 2)) t stencil)
-      (part_number t) r new)
-      → IfErr result (λ e. PartsFail old side root (parts_in (2 ^ (side - 2)) t stencil)
-      (part_number t) e.level e.bucket new)
-      → MakesAct old side root models (acts.Tint t) result new
-  tints_make (Ok name) made fails = λ before shows.
-      let m = made_parts name made in
-      record { came = m.came before shows; grows = m.grown before shows }
-  tints_make (Err full) made fails =
-      subst (λ (parts : ℕ → World → World). PartsFail old side root parts (part_number t)
-      full.level full.bucket new) (parts_as side models t stencil large ink) fails
+pub tints_make : (old new : Seen) (side : ℕ) (root : Option Name) (models : List Content)
+    (t : TintAct) (stencil : Option Inked) → 4 ≤ side → HasInk models t stencil
+    → (result : Result (Option Name) Full)
+    → MakesParts old side root (parts_in (2 ^ (side - 2)) t stencil) (part_number t) result new
+    → MakesAct old side root models (acts.Tint t) result new
+tints_make old new side root models t stencil large ink result made =
+    acts_parts result
+    (subst (λ (parts : ℕ → World → World). MakesParts old side root parts (part_number t) result new)
+    (parts_as side models t stencil large ink) made)
+  where
+    acts_parts : (r : Result (Option Name) Full)
+        → MakesParts old side root (edit_parts (2 ^ side) models (acts.Tint t)) (part_number t) r
+        new
+        → MakesAct old side root models (acts.Tint t) r new
+    acts_parts (Ok name) m = λ before shows.
+        record { came = m.came before shows; grows = m.grown before shows }
+    acts_parts (Err full) m = m
 
 -- a stamp fits where its model does, which has the stencil's size
 model_fits : (n : ℕ) (models : List Content) (m : ℕ) (at : Cell) (model : Content) (inked : Inked)

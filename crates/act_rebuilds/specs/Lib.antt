@@ -5,7 +5,7 @@ pub use Rattle.edit_stamp.specs.Drawings
 pub use Rattle.edit_copy.specs.Copies
 pub use Rattle.edit_ops.specs.Balls
 pub use Rattle.edit_ops.specs.Boxes
-pub use Rattle.colour.specs.Edits
+pub use Rattle.edit_walk.specs.Edits
 pub use Rattle.colour.specs.Inks
 pub use Rattle.colour.specs.Made
 pub use Rattle.colour.specs.Reading

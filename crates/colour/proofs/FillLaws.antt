@@ -1,6 +1,6 @@
 -- A test's cells get a tint: in one walk over all planes, as by one part after another.
 use Rattle.std.proofs.Common.{◌≡◌, ℕ, zero, suc, ◌-◌, ◌^◌, ◌<◌, ◌≤◌, inl, inr, Bool, false, Option, List, refl, sym, ◌∙◌, ap, subst, arith}
-use Rattle.std.specs.Prelude.{Result, Ok, Err, IfOk, IfErr}
+use Rattle.std.specs.Prelude.{Result, Ok, Err}
 use Rattle.std.proofs.lemmas.Bool.{cases_eq}
 use Rattle.vw_cell.specs.declared.cells.Cell.{Cell}
 use Rattle.vw_cell.specs.declared.boxes.Boxed.{Boxed}
@@ -34,11 +34,11 @@ use Rattle.history_model.specs.declared.acts.TintAct.TheVariants.{Fill, Erase, C
 use Rattle.colour.specs.Inks.{Inked, parts_in}
 use Rattle.core_laws.proofs.OfTints.PartLaws.{tells_none}
 use Rattle.core_laws.proofs.OfTints.PlaneLaws.{made_in_own, planes_apart, left_outside}
-use Rattle.colour.specs.Edits.{RebuildsEdit, GrowsByEdit, RefusesEdit}
+use Rattle.edit_walk.specs.Edits.{Edits}
 use Rattle.colour.specs.declared.fills.BoxPlanes.{BoxPlanes}
 use Rattle.colour.specs.declared.fills.BallPlanes.{BallPlanes}
 use Rattle.colour.specs.Fills.{box_task, ball_task}
-use Rattle.colour.specs.Made.{IsOfParts, PartsMade, PartsFail}
+use Rattle.colour.specs.Made.{IsOfParts, MakesParts}
 use Rattle.colour.specs.declared.walks.TintTask.TheVariants.{Root}
 use Rattle.colour.specs.Walks.{makes_tint, CellEdit, in_cells, cell_parts, all_planes, MakesPlanes, fill_edit}
 use Rattle.colour.proofs.WorldWalks.{EditsPlanes, world_made}
@@ -134,24 +134,16 @@ module _ (old new : Seen) (side : ℕ) (root : Option Name) (parts : ℕ → Wor
       record { after = number; some = some; few = omega arith; is_part = p }
 
   pub all_made : (result : Result (Option Name) Full)
-      → RebuildsEdit old side root (after_parts parts number) result new
-      → GrowsByEdit old side root (after_parts parts number) result new
-      → IfOk result (λ r. PartsMade old side root parts number r new)
-  all_made (Ok name) ok grows =
-      record {
-        came = ok;
-        grown = λ before w.
-            let g = grows before w in
-            record { plan = g.plan; made = grew_into (as_parts before) g.made; met = g.met };
-      }
-  all_made (Err e) ok grows = tt
-
-  pub all_fails : (result : Result (Option Name) Full)
-      → RefusesEdit old side root (after_parts parts number) result new
-      → IfErr result (λ e. PartsFail old side root parts number e.level e.bucket new)
-  all_fails (Ok name) fails = tt
-  all_fails (Err e) fails = λ before w.
-      let f = fails before w in
+      → Edits old side root (after_parts parts number) result new
+      → MakesParts old side root parts number result new
+  all_made (Ok name) edits = record {
+    came = λ before w. (edits before w).came;
+    grown = λ before w.
+        let g = (edits before w).grows in
+        record { plan = g.plan; made = grew_into (as_parts before) g.made; met = g.met };
+  }
+  all_made (Err full) edits = λ before w.
+      let f = edits before w in
       record {
         plan = f.plan;
         made = grew_into (as_parts before) f.made;
@@ -226,32 +218,28 @@ ball_planes held side planes small =
 
 -- ---- which acts these are
 
+-- what was made by these parts was made by those of the act
+pub parts_made : (old new : Seen) (side : ℕ) (root : Option Name) (act : TintAct)
+    (stencil : Option Inked) (parts : ℕ → World → World) (number : ℕ)
+    (result : Result (Option Name) Full) → parts_in (2 ^ (side - 2)) act stencil ≡ parts
+    → part_number act ≡ number → MakesParts old side root parts number result new
+    → MakesParts old side root (parts_in (2 ^ (side - 2)) act stencil) (part_number act) result new
+parts_made old new side root act stencil parts number result same count made =
+    subst (λ (k : ℕ). MakesParts old side root (parts_in (2 ^ (side - 2)) act stencil) k result new)
+    (sym count)
+    (subst (λ (p : ℕ → World → World). MakesParts old side root p number result new) (sym same)
+    made)
+
 module _ (old new : Seen) (side : ℕ) (root : Option Name) (act : TintAct) (stencil : Option Inked)
     (edit : CellEdit) (result : Result (Option Name) Full)
     (same : parts_in (2 ^ (side - 2)) act stencil ≡ cell_parts (2 ^ (side - 2)) edit)
     (nine : part_number act ≡ 9) where
-  pub act_made : RebuildsEdit old side root (all_planes side edit) result new
-      → GrowsByEdit old side root (all_planes side edit) result new
-      → IfOk result (λ r. PartsMade old side root (parts_in (2 ^ (side - 2)) act stencil)
-      (part_number act) r new)
-  act_made ok grows =
-      subst (λ (k : ℕ). IfOk result (λ r. PartsMade old side root
-      (parts_in (2 ^ (side - 2)) act stencil) k r new)) (sym nine)
-      (subst (λ (parts : ℕ → World → World). IfOk result
-      (λ r. PartsMade old side root parts 9 r new))
-      (sym same)
-      (all_made old new side root (cell_parts (2 ^ (side - 2)) edit) 9
-      (omega arith) result ok grows))
-
-  pub act_fails : RefusesEdit old side root (all_planes side edit) result new
-      → IfErr result (λ e. PartsFail old side root (parts_in (2 ^ (side - 2)) act stencil)
-      (part_number act) e.level e.bucket new)
-  act_fails fails =
-      subst (λ (k : ℕ). IfErr result (λ e. PartsFail old side root
-      (parts_in (2 ^ (side - 2)) act stencil) k e.level e.bucket new)) (sym nine)
-      (subst (λ (parts : ℕ → World → World). IfErr result
-      (λ e. PartsFail old side root parts 9 e.level e.bucket new)) (sym same)
-      (all_fails old new side root (cell_parts (2 ^ (side - 2)) edit) 9 (omega arith) result fails))
+  pub act_made : Edits old side root (all_planes side edit) result new
+      → MakesParts old side root (parts_in (2 ^ (side - 2)) act stencil) (part_number act) result
+      new
+  act_made edits =
+      parts_made old new side root act stencil (cell_parts (2 ^ (side - 2)) edit) 9 result same nine
+      (all_made old new side root (cell_parts (2 ^ (side - 2)) edit) 9 (omega arith) result edits)
 
 -- an erase is a fill with no tint
 pub clears_as : (n : ℕ) (test : Cell → Bool)

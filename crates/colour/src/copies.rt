@@ -1,12 +1,10 @@
-ghost use Rattle.std.specs.Prelude.{◌≡◌, ◌+◌, ◌-◌, ◌^◌, ◌<◌, ◌≤◌, ℕ, suc, Option, IfOk, IfErr, option_copied};
+ghost use Rattle.std.specs.Prelude.{◌-◌, ◌^◌, ◌<◌, ◌≤◌, ℕ, suc, Option, option_copied};
 ghost use Rattle.vw_cell.specs.Places.{FitsAt};
 ghost use Rattle.node_words.specs.declared.shapes.names.Name.{Name};
-ghost use Rattle.node_words.specs.shapes.Weights.{number_of_trees};
 ghost use Rattle.node_words.specs.Held.{Seen};
-ghost use Rattle.node_words.specs.descent.Roots.{HoldsRoot};
+ghost use Rattle.edit_walk.specs.Edits.{MayEdit, Edits};
 ghost use Rattle.history_model.specs.Worlds.{copied};
-ghost use Rattle.colour.specs.Edits.{RebuildsEdit, GrowsByEdit, RefusesEdit, made_at};
-ghost use Rattle.colour.specs.Made.{PartsMade, PartsFail, copy_parts};
+ghost use Rattle.colour.specs.Made.{MakesParts, PartsMade, copy_parts, made_at};
 
 use crate::planes::{plane_at, plus};
 use edit_copy::rebuild_copy;
@@ -25,18 +23,12 @@ pub(crate) fn rebuild_copied_tints<N: NodeStore, L: Ledger>(
     to: Cell,
     steps: &mut Steps<L>,
 ) -> Result<Option<Share>, Full>
-    requires side { side ≡ (N.seen store.old).plan.side }
+    requires may { MayEdit 3909 (N.seen store.old) side (option_copied old) }
     requires large { 4 ≤ side }
     requires from { FitsAt b.at b.size (2 ^ (side - 2)) }
     requires to { FitsAt to b.size (2 ^ (side - 2)) }
-    requires old { HoldsRoot (N.seen store.old).held side (option_copied old) }
-    requires room { number_of_trees (N.seen store.old).held ≤ 3909 }
-    ensures made { IfOk result (λ r.
-        PartsMade (N.seen store.old) side (option_copied old.entry) (copy_parts side b to) 9 r
-        (N.seen store.new)) }
-    ensures full { IfErr result (λ e.
-        PartsFail (N.seen store.old) side (option_copied old.entry) (copy_parts side b to) 9
-        e.level e.bucket (N.seen store.new)) }
+    ensures made { MakesParts (N.seen store.old) side (option_copied old.entry)
+        (copy_parts side b to) 9 result (N.seen store.new) }
     ensures rests { N.rests store.old store.new }
 {
     let mut now = match copy_part(store, old, side, 0, b, to, steps) {
@@ -62,21 +54,15 @@ fn next_part<N: NodeStore, L: Ledger>(
     to: Cell,
     steps: &mut Steps<L>,
 ) -> Result<Option<Share>, Full>
-    requires side { side ≡ (N.seen store.old).plan.side }
+    requires may { MayEdit 3910 (N.seen store.old) side now }
     requires large { 4 ≤ side }
     requires plane { plane < 9 }
     requires from { FitsAt b.at b.size (2 ^ (side - 2)) }
     requires to { FitsAt to b.size (2 ^ (side - 2)) }
-    requires now { HoldsRoot (N.seen store.old).held side now }
-    requires room { number_of_trees (N.seen store.old).held ≤ 3910 }
     ensures made { (first : Seen) (root : Option Name)
         → PartsMade first side root (copy_parts side b to) plane now (N.seen store.old)
-        → IfOk result (λ r. PartsMade first side root (copy_parts side b to) (suc plane) r
-        (N.seen store.new)) }
-    ensures full { (first : Seen) (root : Option Name)
-        → PartsMade first side root (copy_parts side b to) plane now (N.seen store.old)
-        → IfErr result (λ e. PartsFail first side root (copy_parts side b to) (suc plane) e.level
-        e.bucket (N.seen store.new)) }
+        → MakesParts first side root (copy_parts side b to) (suc plane) result
+        (N.seen store.new) }
     ensures rests { N.rests store.old store.new }
 {
     let next = copy_part(store, now.as_ref(), side, plane, b, to, steps);
@@ -94,22 +80,13 @@ fn copy_part<N: NodeStore, L: Ledger>(
     to: Cell,
     steps: &mut Steps<L>,
 ) -> Result<Option<Share>, Full>
-    requires side { side ≡ (N.seen store.old).plan.side }
+    requires may { MayEdit 3910 (N.seen store.old) side (option_copied old) }
     requires large { 4 ≤ side }
     requires plane { plane < 9 }
     requires from { FitsAt b.at b.size (2 ^ (side - 2)) }
     requires to { FitsAt to b.size (2 ^ (side - 2)) }
-    requires old { HoldsRoot (N.seen store.old).held side (option_copied old) }
-    requires room { number_of_trees (N.seen store.old).held ≤ 3910 }
-    ensures ok { RebuildsEdit (N.seen store.old) side (option_copied old.entry)
-        (made_at side plane (copied b to))
-        result (N.seen store.new) }
-    ensures grows { GrowsByEdit (N.seen store.old) side (option_copied old.entry)
-        (made_at side plane (copied b to))
-        result (N.seen store.new) }
-    ensures full { RefusesEdit (N.seen store.old) side (option_copied old.entry)
-        (made_at side plane (copied b to))
-        result (N.seen store.new) }
+    ensures made { Edits (N.seen store.old) side (option_copied old.entry)
+        (made_at side plane (copied b to)) result (N.seen store.new) }
     ensures rests { N.rests store.old store.new }
 {
     let corner = plane_at(side, plane);

@@ -1,8 +1,6 @@
-ghost use Rattle.std.specs.Prelude.{◌≡◌, ◌-◌, ◌^◌, ◌≤◌, ℕ, Option, IfOk, IfErr, option_copied};
+ghost use Rattle.std.specs.Prelude.{◌≤◌, ℕ, Option, option_copied};
 ghost use Rattle.vw_cell.specs.Places.{is_in_box, is_in_ball};
-ghost use Rattle.node_words.specs.shapes.Weights.{number_of_trees};
-ghost use Rattle.node_words.specs.descent.Roots.{HoldsRoot};
-ghost use Rattle.colour.specs.Edits.{RebuildsEdit, GrowsByEdit, RefusesEdit};
+ghost use Rattle.edit_walk.specs.Edits.{MayEdit, Edits};
 ghost use Rattle.colour.specs.Walks.{all_planes, fill_edit};
 
 use crate::planes::tells;
@@ -74,15 +72,9 @@ pub(crate) fn rebuild_box_tint<N: NodeStore, L: Ledger>(
     tint: u8,
     steps: &mut Steps<L>,
 ) -> Result<Option<Share>, Full>
-    requires side { side ≡ (N.seen store.old).plan.side }
+    requires may { MayEdit 3910 (N.seen store.old) side (option_copied old) }
     requires large { 4 ≤ side }
-    requires old { HoldsRoot (N.seen store.old).held side (option_copied old) }
-    requires room { number_of_trees (N.seen store.old).held ≤ 3910 }
-    ensures ok { RebuildsEdit (N.seen store.old) side (option_copied old.entry)
-        (all_planes side (fill_edit (is_in_box b) tint)) result (N.seen store.new) }
-    ensures grows { GrowsByEdit (N.seen store.old) side (option_copied old.entry)
-        (all_planes side (fill_edit (is_in_box b) tint)) result (N.seen store.new) }
-    ensures full { RefusesEdit (N.seen store.old) side (option_copied old.entry)
+    ensures made { Edits (N.seen store.old) side (option_copied old.entry)
         (all_planes side (fill_edit (is_in_box b) tint)) result (N.seen store.new) }
     ensures rests { N.rests store.old store.new }
 {
@@ -105,15 +97,9 @@ pub(crate) fn rebuild_ball_tint<N: NodeStore, L: Ledger>(
     tint: u8,
     steps: &mut Steps<L>,
 ) -> Result<Option<Share>, Full>
-    requires side { side ≡ (N.seen store.old).plan.side }
+    requires may { MayEdit 3910 (N.seen store.old) side (option_copied old) }
     requires large { 4 ≤ side }
-    requires old { HoldsRoot (N.seen store.old).held side (option_copied old) }
-    requires room { number_of_trees (N.seen store.old).held ≤ 3910 }
-    ensures ok { RebuildsEdit (N.seen store.old) side (option_copied old.entry)
-        (all_planes side (fill_edit (is_in_ball ball) tint)) result (N.seen store.new) }
-    ensures grows { GrowsByEdit (N.seen store.old) side (option_copied old.entry)
-        (all_planes side (fill_edit (is_in_ball ball) tint)) result (N.seen store.new) }
-    ensures full { RefusesEdit (N.seen store.old) side (option_copied old.entry)
+    ensures made { Edits (N.seen store.old) side (option_copied old.entry)
         (all_planes side (fill_edit (is_in_ball ball) tint)) result (N.seen store.new) }
     ensures rests { N.rests store.old store.new }
 {

@@ -1,9 +1,8 @@
-ghost use Rattle.std.specs.Prelude.{◌≡◌, ◌-◌, ◌^◌, ◌≤◌, ℕ, Option, IfOk, IfErr, option_copied};
-ghost use Rattle.node_words.specs.shapes.Weights.{number_of_trees};
-ghost use Rattle.node_words.specs.descent.Roots.{HoldsRoot};
+ghost use Rattle.std.specs.Prelude.{◌-◌, ◌^◌, ◌≤◌, option_copied};
+ghost use Rattle.edit_walk.specs.Edits.{MayEdit};
 ghost use Rattle.history_model.specs.Parts.{part_number};
 ghost use Rattle.colour.specs.Inks.{FitsInk, parts_in};
-ghost use Rattle.colour.specs.Made.{PartsMade, PartsFail};
+ghost use Rattle.colour.specs.Made.{MakesParts};
 
 use crate::copies::rebuild_copied_tints;
 use crate::fills::{rebuild_ball_tint, rebuild_box_tint};
@@ -25,19 +24,12 @@ pub fn rebuild_tint<N: NodeStore, L: Ledger>(
     stencil: Option<&TintStencil>,
     steps: &mut Steps<L>,
 ) -> Result<Option<Share>, Full>
-    requires side { side ≡ (N.seen store.old).plan.side }
+    requires may { MayEdit 3909 (N.seen store.old) side (option_copied old) }
     requires large { 4 ≤ side }
     requires fits { FitsInk (2 ^ (side - 2)) act.now (option_copied stencil) }
-    requires old { HoldsRoot (N.seen store.old).held side (option_copied old) }
-    requires room { number_of_trees (N.seen store.old).held ≤ 3909 }
-    ensures made { IfOk result (λ r.
-        PartsMade (N.seen store.old) side (option_copied old.entry)
-        (parts_in (2 ^ (side - 2)) act.now (option_copied stencil.entry))
-        (part_number act.now) r (N.seen store.new)) }
-    ensures full { IfErr result (λ e.
-        PartsFail (N.seen store.old) side (option_copied old.entry)
-        (parts_in (2 ^ (side - 2)) act.now (option_copied stencil.entry))
-        (part_number act.now) e.level e.bucket (N.seen store.new)) }
+    ensures made { MakesParts (N.seen store.old) side (option_copied old.entry)
+        (parts_in (2 ^ (side - 2)) act.now (option_copied stencil.entry)) (part_number act.now)
+        result (N.seen store.new) }
     ensures rests { N.rests store.old store.new }
 {
     match *act {

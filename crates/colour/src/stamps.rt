@@ -8,7 +8,7 @@ ghost use Rattle.node_words.specs.contents.CellShapes.{Cells, SameIn, no_cells, 
 ghost use Rattle.edit_walk.specs.cells.Tasks.{IsWhole};
 ghost use Rattle.edit_stamp.specs.declared.stencils.Shown.{Shown};
 ghost use Rattle.history_model.specs.Worlds.{box_at};
-ghost use Rattle.colour.specs.Edits.{RebuildsEdit, GrowsByEdit, RefusesEdit};
+ghost use Rattle.edit_walk.specs.Edits.{MayEdit, Edits};
 ghost use Rattle.colour.specs.Inks.{ink_at};
 ghost use Rattle.colour.specs.Stamps.{ink_cells, makes_ink};
 ghost use Rattle.colour.specs.Walks.{all_planes, ink_edit};
@@ -299,16 +299,10 @@ pub(crate) fn rebuild_ink_stamp<N: NodeStore, L: Ledger>(
     at: Cell,
     steps: &mut Steps<L>,
 ) -> Result<Option<Share>, Full>
-    requires side { side ≡ (N.seen store.old).plan.side }
+    requires may { MayEdit 3910 (N.seen store.old) side (option_copied old) }
     requires large { 4 ≤ side }
     requires inside { FitsAt at stencil.now.size (2 ^ (side - 2)) }
-    requires old { HoldsRoot (N.seen store.old).held side (option_copied old) }
-    requires room { number_of_trees (N.seen store.old).held ≤ 3910 }
-    ensures ok { RebuildsEdit (N.seen store.old) side (option_copied old.entry)
-        (all_planes side (ink_edit (ink_at stencil.now at))) result (N.seen store.new) }
-    ensures grows { GrowsByEdit (N.seen store.old) side (option_copied old.entry)
-        (all_planes side (ink_edit (ink_at stencil.now at))) result (N.seen store.new) }
-    ensures full { RefusesEdit (N.seen store.old) side (option_copied old.entry)
+    ensures made { Edits (N.seen store.old) side (option_copied old.entry)
         (all_planes side (ink_edit (ink_at stencil.now at))) result (N.seen store.new) }
     ensures rests { N.rests store.old store.new }
 {

@@ -1,9 +1,7 @@
 ghost use Rattle.std.specs.Prelude.{◌≡◌, ◌-◌, ◌<◌, ◌≤◌, ℕ, Option, option_copied};
 ghost use Rattle.node_words.specs.declared.shapes.names.Name.{Name};
-ghost use Rattle.node_words.specs.shapes.Weights.{number_of_trees};
-ghost use Rattle.node_words.specs.descent.Roots.{HoldsRoot};
+ghost use Rattle.edit_walk.specs.Edits.{MayEdit, Edits};
 ghost use Rattle.edit_walk.specs.Memos.{RecallsHeld};
-ghost use Rattle.colour.specs.Edits.{RebuildsEdit, GrowsByEdit, RefusesEdit};
 ghost use Rattle.node_words.specs.contents.CellShapes.{octant_cells};
 ghost use Rattle.edit_walk.specs.cells.Tasks.{MakesCells, ForCells};
 ghost use Rattle.colour.specs.Walks.{MakesRow, root_octants, first_octants, bit_octants, makes_tint, CellEdit, all_planes, MakesPlanes};
@@ -201,33 +199,20 @@ pub(crate) fn rebuild_planes<
     memo: &mut M,
     steps: &mut Steps<L>,
 ) -> Result<Option<Share>, Full>
-    requires side { side ≡ (N.seen store.old).plan.side }
+    requires may { MayEdit 3910 (N.seen store.old) side (option_copied old) }
     requires large { 4 ≤ side }
     requires memo { RecallsHeld (makes_tint P.task_of T.makes) (N.seen store.old).held
         (M.has memo.old) }
     requires planes { (edit : CellEdit) × MakesPlanes P.task_of T.makes planes
         (N.seen store.old).held (side - 2 - 2) edit }
-    requires old { HoldsRoot (N.seen store.old).held side (option_copied old) }
-    requires room { number_of_trees (N.seen store.old).held ≤ 3910 }
-    ensures ok { (edit : CellEdit) → MakesPlanes P.task_of T.makes planes
+    ensures made { (edit : CellEdit) → MakesPlanes P.task_of T.makes planes
         (N.seen store.old).held (side - 2 - 2) edit
-        → RebuildsEdit (N.seen store.old) side (option_copied old.entry) (all_planes side edit)
-        result (N.seen store.new) }
-    ensures grows { (edit : CellEdit) → MakesPlanes P.task_of T.makes planes
-        (N.seen store.old).held (side - 2 - 2) edit
-        → GrowsByEdit (N.seen store.old) side (option_copied old.entry) (all_planes side edit)
-        result (N.seen store.new) }
-    ensures full { (edit : CellEdit) → MakesPlanes P.task_of T.makes planes
-        (N.seen store.old).held (side - 2 - 2) edit
-        → RefusesEdit (N.seen store.old) side (option_copied old.entry) (all_planes side edit)
-        result (N.seen store.new) }
+        → Edits (N.seen store.old) side (option_copied old.entry) (all_planes side edit) result
+        (N.seen store.new) }
     ensures rests { N.rests store.old store.new }
 {
     let task = TintTask::Root(name_of(old), planes);
     let _held = store.held();
     let _level = side.root_level();
-    match rebuild_world(store, side, &task, memo, steps) {
-        Ok(share) => Ok(share),
-        Err(e) => Err(e),
-    }
+    rebuild_world(store, side, &task, memo, steps)
 }

@@ -1,11 +1,8 @@
-ghost use Rattle.std.specs.Prelude.{◌≡◌, ◌≤◌, ◌-◌, ◌^◌, ℕ, IfOk, IfErr, OnOk, [], option_copied};
+ghost use Rattle.std.specs.Prelude.{◌^◌, ℕ, OnOk, [], option_copied};
 ghost use Rattle.vw_cell.specs.Places.{FitsAt};
-ghost use Rattle.node_words.specs.shapes.Weights.{number_of_trees};
-ghost use Rattle.node_words.specs.Gathering.{Grows, Fails};
 ghost use Rattle.history_model.specs.Worlds.{edited};
 ghost use Rattle.history_model.specs.declared.acts.Act.TheVariants.{Copy};
-ghost use Rattle.node_words.specs.descent.Roots.{HoldsRoot};
-ghost use Rattle.edit_walk.specs.cells.Worlds.{ForEdited, Rebuilt, world_shape};
+ghost use Rattle.edit_walk.specs.Edits.{MayEdit, Edits};
 ghost use Rattle.edit_walk.specs.Memos.{RecallsHeld};
 ghost use Rattle.edit_copy.specs.Copies.{MakesCopy};
 
@@ -28,34 +25,18 @@ pub fn rebuild_copy<N: NodeStore, L: Ledger>(
     to: Cell,
     steps: &mut Steps<L>,
 ) -> Result<Option<Share>, Full>
-    requires side { side ≡ (N.seen store.old).plan.side }
+    requires may { MayEdit 3910 (N.seen store.old) side (option_copied old) }
     requires from { FitsAt from.at from.size (2 ^ side) }
     requires to { FitsAt to from.size (2 ^ side) }
-    requires old { HoldsRoot (N.seen store.old).held side (option_copied old) }
-    requires room { number_of_trees (N.seen store.old).held ≤ 3910 }
-    ensures ok { IfOk result (λ r.
-        ForEdited (N.seen store.old) side (option_copied old.entry) (edited [] (Copy from to))
-        (λ world. Rebuilt (side - 2) world r (N.seen store.old) (N.seen store.new))) }
-    ensures grows { OnOk result (
-        ForEdited (N.seen store.old) side (option_copied old.entry) (edited [] (Copy from to))
-        (λ world. Grows (world_shape (side - 2) world) (N.seen store.old) (N.seen store.new))) }
-    ensures full { IfErr result (λ e.
-        ForEdited (N.seen store.old) side (option_copied old.entry) (edited [] (Copy from to))
-        (λ world. Fails (world_shape (side - 2) world) e.level e.bucket (N.seen store.old)
-        (N.seen store.new))) }
+    ensures made { Edits (N.seen store.old) side (option_copied old.entry)
+        (edited [] (Copy from to)) result (N.seen store.new) }
     ensures rests { N.rests store.old store.new }
 {
     if !copy_may_repeat(from.size) {
-        return match rebuild_copy_with(store, old, side, from, to, &mut NoMemo, steps) {
-            Ok(share) => Ok(share),
-            Err(e) => Err(e),
-        };
+        return rebuild_copy_with(store, old, side, from, to, &mut NoMemo, steps);
     }
     let mut memo = Latest::new();
-    match rebuild_copy_with(store, old, side, from, to, &mut memo, steps) {
-        Ok(share) => Ok(share),
-        Err(e) => Err(e),
-    }
+    rebuild_copy_with(store, old, side, from, to, &mut memo, steps)
 }
 
 /// The same with a memo of blocks that such copies made before, of trees that are still held: a
@@ -69,31 +50,18 @@ pub fn rebuild_copy_with<M: Memo<CopyTask>, N: NodeStore, L: Ledger>(
     memo: &mut M,
     steps: &mut Steps<L>,
 ) -> Result<Option<Share>, Full>
-    requires side { side ≡ (N.seen store.old).plan.side }
+    requires may { MayEdit 3910 (N.seen store.old) side (option_copied old) }
     requires memo { RecallsHeld MakesCopy (N.seen store.old).held (M.has memo.old) }
     requires from { FitsAt from.at from.size (2 ^ side) }
     requires to { FitsAt to from.size (2 ^ side) }
-    requires old { HoldsRoot (N.seen store.old).held side (option_copied old) }
-    requires room { number_of_trees (N.seen store.old).held ≤ 3910 }
-    ensures ok { IfOk result (λ r.
-        ForEdited (N.seen store.old) side (option_copied old.entry) (edited [] (Copy from to))
-        (λ world. Rebuilt (side - 2) world r (N.seen store.old) (N.seen store.new))) }
-    ensures grows { OnOk result (
-        ForEdited (N.seen store.old) side (option_copied old.entry) (edited [] (Copy from to))
-        (λ world. Grows (world_shape (side - 2) world) (N.seen store.old) (N.seen store.new))) }
-    ensures full { IfErr result (λ e.
-        ForEdited (N.seen store.old) side (option_copied old.entry) (edited [] (Copy from to))
-        (λ world. Fails (world_shape (side - 2) world) e.level e.bucket (N.seen store.old)
-        (N.seen store.new))) }
+    ensures made { Edits (N.seen store.old) side (option_copied old.entry)
+        (edited [] (Copy from to)) result (N.seen store.new) }
     ensures memo { OnOk result (RecallsHeld MakesCopy (N.seen store.new).held (M.has memo.new)) }
     ensures rests { N.rests store.old store.new }
 {
     let task = whole_task(name_of(old), side, from, to);
     let _held = store.held();
-    match rebuild_world(store, side, &task, memo, steps) {
-        Ok(share) => Ok(share),
-        Err(e) => Err(e),
-    }
+    rebuild_world(store, side, &task, memo, steps)
 }
 
 // To remember blocks costs more than it saves in a box of at most this size on each axis.

@@ -1,10 +1,12 @@
 -- The blocks of the world that a box meets in part, counted by clips and by places.
-use Rattle.std.proofs.Common.{◌≡◌, ℕ, zero, suc, min, ◌+◌, ◌-◌, ◌*◌, ◌^◌, ◌<◌, ◌≤◌, Bool, true, false, refl, sym, ◌∙◌, ap, subst, arith}
+use Rattle.std.proofs.Common.{◌≡◌, ℕ, zero, suc, min, ◌+◌, ◌-◌, ◌*◌, ◌^◌, ◌<◌, ◌≤◌, Bool, true, false, Option, refl, sym, ◌∙◌, ap, subst, arith}
 use native.Mathlib.Nat.{pow-suc}
-use Rattle.std.specs.Prelude.{◌&&◌, not}
+use Rattle.std.specs.Prelude.{◌&&◌, not, Result, OnOk}
 use Rattle.std.proofs.lemmas.Bool.{and_parts, and_from, leb-true, ltb-true, le-leb, lt-ltb}
 use Rattle.vw_cell.specs.declared.cells.Cell.{Cell}
 use Rattle.vw_cell.specs.declared.boxes.Boxed.{Boxed}
+use Rattle.node_words.specs.declared.shapes.names.Name.{Name}
+use Rattle.node_words.specs.declared.shares.Full.{Full}
 use Rattle.node_words.specs.Sums.{one_if, sum_below-same}
 use Rattle.vw_cell.specs.Counts.{cell_at}
 use Rattle.vw_cell.specs.Places.{block_side, half_x, half_y, half_z, FitsAt}
@@ -172,3 +174,10 @@ pub world_parts : (side : ℕ) (b : Boxed) → 2 ≤ side → FitsAt b.at b.size
     → parts_met (side - 2) b ≡ blocks_partly (side - 2) b (cell_at 0 0 0)
 world_parts side b h f =
     parts_world (side - 2) b (subst (λ (n : ℕ). FitsAt b.at b.size n) (side_exact side h) f)
+
+-- turns that are counted by one are counted by the other
+pub turns_partly : (result : Result (Option Name) Full) (parts partly old new more : ℕ)
+    → parts ≡ partly → OnOk result (new ≤ old + 25 * parts + more)
+    → OnOk result (new ≤ old + 25 * partly + more)
+turns_partly result parts partly old new more e h =
+    subst (λ (n : ℕ). OnOk result (new ≤ old + 25 * n + more)) e h

@@ -1,10 +1,7 @@
-ghost use Rattle.std.specs.Prelude.{◌≡◌, ◌+◌, ◌-◌, ◌*◌, ◌≤◌, ◌^◌, ℕ, IfOk, IfErr, OnOk, [], option_copied};
+ghost use Rattle.std.specs.Prelude.{◌+◌, ◌-◌, ◌*◌, ◌≤◌, ◌^◌, ℕ, OnOk, [], option_copied};
 ghost use Rattle.vw_cell.specs.Places.{FitsAt, IsInWorld};
-ghost use Rattle.node_words.specs.shapes.Weights.{number_of_trees};
-ghost use Rattle.node_words.specs.Gathering.{Grows, Fails};
 ghost use Rattle.history_model.specs.Worlds.{edited};
-ghost use Rattle.node_words.specs.descent.Roots.{HoldsRoot};
-ghost use Rattle.edit_walk.specs.cells.Worlds.{ForEdited, Rebuilt, world_shape};
+ghost use Rattle.edit_walk.specs.Edits.{MayEdit, Edits};
 ghost use Rattle.edit_walk.specs.Memos.{RecallsHeld};
 ghost use Rattle.edit_ops.specs.Boxes.{MakesBox, box_act};
 ghost use Rattle.edit_ops.specs.Balls.{ball_act, makes_ball};
@@ -30,20 +27,10 @@ pub fn rebuild_box<N: NodeStore, L: Ledger>(
     set: bool,
     steps: &mut Steps<L>,
 ) -> Result<Option<Share>, Full>
-    requires side { side ≡ (N.seen store.old).plan.side }
+    requires may { MayEdit 3910 (N.seen store.old) side (option_copied old) }
     requires inside { FitsAt b.at b.size (2 ^ side) }
-    requires old { HoldsRoot (N.seen store.old).held side (option_copied old) }
-    requires room { number_of_trees (N.seen store.old).held ≤ 3910 }
-    ensures ok { IfOk result (λ r.
-        ForEdited (N.seen store.old) side (option_copied old.entry) (edited [] (box_act set b))
-        (λ world. Rebuilt (side - 2) world r (N.seen store.old) (N.seen store.new))) }
-    ensures grows { OnOk result (
-        ForEdited (N.seen store.old) side (option_copied old.entry) (edited [] (box_act set b))
-        (λ world. Grows (world_shape (side - 2) world) (N.seen store.old) (N.seen store.new))) }
-    ensures full { IfErr result (λ e.
-        ForEdited (N.seen store.old) side (option_copied old.entry) (edited [] (box_act set b))
-        (λ world. Fails (world_shape (side - 2) world) e.level e.bucket (N.seen store.old)
-        (N.seen store.new))) }
+    ensures made { Edits (N.seen store.old) side (option_copied old.entry)
+        (edited [] (box_act set b)) result (N.seen store.new) }
     ensures rests { N.rests store.old store.new }
     // 25 turns a block of the world that meets the box without lying in it, and 25 a level.
     ensures turns { OnOk result
@@ -51,15 +38,9 @@ pub fn rebuild_box<N: NodeStore, L: Ledger>(
 {
     if box_may_repeat(b.size, side) {
         let mut memo = Latest::new();
-        return match rebuild_box_with(store, old, side, b, set, &mut memo, steps) {
-            Ok(share) => Ok(share),
-            Err(e) => Err(e),
-        };
+        return rebuild_box_with(store, old, side, b, set, &mut memo, steps);
     }
-    match rebuild_box_with(store, old, side, b, set, &mut NoMemo, steps) {
-        Ok(share) => Ok(share),
-        Err(e) => Err(e),
-    }
+    rebuild_box_with(store, old, side, b, set, &mut NoMemo, steps)
 }
 
 /// Whether many blocks of a box may be alike, so that it pays to remember them. Where the box is
@@ -79,21 +60,11 @@ pub fn rebuild_box_with<M: Memo<BoxTask>, N: NodeStore, L: Ledger>(
     memo: &mut M,
     steps: &mut Steps<L>,
 ) -> Result<Option<Share>, Full>
-    requires side { side ≡ (N.seen store.old).plan.side }
+    requires may { MayEdit 3910 (N.seen store.old) side (option_copied old) }
     requires memo { RecallsHeld MakesBox (N.seen store.old).held (M.has memo.old) }
     requires inside { FitsAt b.at b.size (2 ^ side) }
-    requires old { HoldsRoot (N.seen store.old).held side (option_copied old) }
-    requires room { number_of_trees (N.seen store.old).held ≤ 3910 }
-    ensures ok { IfOk result (λ r.
-        ForEdited (N.seen store.old) side (option_copied old.entry) (edited [] (box_act set b))
-        (λ world. Rebuilt (side - 2) world r (N.seen store.old) (N.seen store.new))) }
-    ensures grows { OnOk result (
-        ForEdited (N.seen store.old) side (option_copied old.entry) (edited [] (box_act set b))
-        (λ world. Grows (world_shape (side - 2) world) (N.seen store.old) (N.seen store.new))) }
-    ensures full { IfErr result (λ e.
-        ForEdited (N.seen store.old) side (option_copied old.entry) (edited [] (box_act set b))
-        (λ world. Fails (world_shape (side - 2) world) e.level e.bucket (N.seen store.old)
-        (N.seen store.new))) }
+    ensures made { Edits (N.seen store.old) side (option_copied old.entry)
+        (edited [] (box_act set b)) result (N.seen store.new) }
     ensures memo { OnOk result (RecallsHeld MakesBox (N.seen store.new).held (M.has memo.new)) }
     ensures rests { N.rests store.old store.new }
     ensures turns { OnOk result
@@ -106,10 +77,7 @@ pub fn rebuild_box_with<M: Memo<BoxTask>, N: NodeStore, L: Ledger>(
     };
     let _held = store.held();
     let _level = side.root_level();
-    match rebuild_world(store, side, &task, memo, steps) {
-        Ok(share) => Ok(share),
-        Err(e) => Err(e),
-    }
+    rebuild_world(store, side, &task, memo, steps)
 }
 
 /// A share of the root of the world with the cells of the ball set or cleared, where a cell is set
@@ -123,26 +91,13 @@ pub fn rebuild_ball<N: NodeStore, L: Ledger>(
     set: bool,
     steps: &mut Steps<L>,
 ) -> Result<Option<Share>, Full>
-    requires side { side ≡ (N.seen store.old).plan.side }
+    requires may { MayEdit 3910 (N.seen store.old) side (option_copied old) }
     requires inside { IsInWorld (2 ^ side) ball.centre }
-    requires old { HoldsRoot (N.seen store.old).held side (option_copied old) }
-    requires room { number_of_trees (N.seen store.old).held ≤ 3910 }
-    ensures ok { IfOk result (λ r.
-        ForEdited (N.seen store.old) side (option_copied old.entry) (edited [] (ball_act set ball))
-        (λ world. Rebuilt (side - 2) world r (N.seen store.old) (N.seen store.new))) }
-    ensures grows { OnOk result (
-        ForEdited (N.seen store.old) side (option_copied old.entry) (edited [] (ball_act set ball))
-        (λ world. Grows (world_shape (side - 2) world) (N.seen store.old) (N.seen store.new))) }
-    ensures full { IfErr result (λ e.
-        ForEdited (N.seen store.old) side (option_copied old.entry) (edited [] (ball_act set ball))
-        (λ world. Fails (world_shape (side - 2) world) e.level e.bucket (N.seen store.old)
-        (N.seen store.new))) }
+    ensures made { Edits (N.seen store.old) side (option_copied old.entry)
+        (edited [] (ball_act set ball)) result (N.seen store.new) }
     ensures rests { N.rests store.old store.new }
 {
-    match rebuild_ball_with(store, old, side, &ball, set, &mut NoMemo, steps) {
-        Ok(share) => Ok(share),
-        Err(e) => Err(e),
-    }
+    rebuild_ball_with(store, old, side, &ball, set, &mut NoMemo, steps)
 }
 
 /// The same with a memo of blocks that such edits made before, of trees that are still held. Such a
@@ -156,24 +111,11 @@ pub fn rebuild_ball_with<'b, M: Memo<BallTask<'b>>, N: NodeStore, L: Ledger>(
     memo: &mut M,
     steps: &mut Steps<L>,
 ) -> Result<Option<Share>, Full>
-    requires side { side ≡ (N.seen store.old).plan.side }
+    requires may { MayEdit 3910 (N.seen store.old) side (option_copied old) }
     requires memo { RecallsHeld makes_ball (N.seen store.old).held (M.has memo.old) }
     requires inside { IsInWorld (2 ^ side) ball.now.centre }
-    requires old { HoldsRoot (N.seen store.old).held side (option_copied old) }
-    requires room { number_of_trees (N.seen store.old).held ≤ 3910 }
-    ensures ok { IfOk result (λ r.
-        ForEdited (N.seen store.old) side (option_copied old.entry)
-        (edited [] (ball_act set ball.now))
-        (λ world. Rebuilt (side - 2) world r (N.seen store.old) (N.seen store.new))) }
-    ensures grows { OnOk result (
-        ForEdited (N.seen store.old) side (option_copied old.entry)
-        (edited [] (ball_act set ball.now))
-        (λ world. Grows (world_shape (side - 2) world) (N.seen store.old) (N.seen store.new))) }
-    ensures full { IfErr result (λ e.
-        ForEdited (N.seen store.old) side (option_copied old.entry)
-        (edited [] (ball_act set ball.now))
-        (λ world. Fails (world_shape (side - 2) world) e.level e.bucket (N.seen store.old)
-        (N.seen store.new))) }
+    ensures made { Edits (N.seen store.old) side (option_copied old.entry)
+        (edited [] (ball_act set ball.now)) result (N.seen store.new) }
     ensures memo { OnOk result (RecallsHeld makes_ball (N.seen store.new).held (M.has memo.new)) }
     ensures rests { N.rests store.old store.new }
 {
@@ -185,10 +127,7 @@ pub fn rebuild_ball_with<'b, M: Memo<BallTask<'b>>, N: NodeStore, L: Ledger>(
     };
     let _held = store.held();
     let _level = side.root_level();
-    match rebuild_world(store, side, &task, memo, steps) {
-        Ok(share) => Ok(share),
-        Err(e) => Err(e),
-    }
+    rebuild_world(store, side, &task, memo, steps)
 }
 
 /// A share of the root of the world with the cells of the ball that lie in the box set or cleared,
@@ -203,21 +142,11 @@ pub fn rebuild_ball_in<N: NodeStore, L: Ledger>(
     set: bool,
     steps: &mut Steps<L>,
 ) -> Result<Option<Share>, Full>
-    requires side { side ≡ (N.seen store.old).plan.side }
+    requires may { MayEdit 3910 (N.seen store.old) side (option_copied old) }
     requires inside { IsInWorld (2 ^ side) ball.centre }
     requires within { FitsAt within.at within.size (2 ^ side) }
-    requires old { HoldsRoot (N.seen store.old).held side (option_copied old) }
-    requires room { number_of_trees (N.seen store.old).held ≤ 3910 }
-    ensures ok { IfOk result (λ r.
-        ForEdited (N.seen store.old) side (option_copied old.entry) (clipped set ball within)
-        (λ world. Rebuilt (side - 2) world r (N.seen store.old) (N.seen store.new))) }
-    ensures grows { OnOk result (
-        ForEdited (N.seen store.old) side (option_copied old.entry) (clipped set ball within)
-        (λ world. Grows (world_shape (side - 2) world) (N.seen store.old) (N.seen store.new))) }
-    ensures full { IfErr result (λ e.
-        ForEdited (N.seen store.old) side (option_copied old.entry) (clipped set ball within)
-        (λ world. Fails (world_shape (side - 2) world) e.level e.bucket (N.seen store.old)
-        (N.seen store.new))) }
+    ensures made { Edits (N.seen store.old) side (option_copied old.entry)
+        (clipped set ball within) result (N.seen store.new) }
     ensures rests { N.rests store.old store.new }
 {
     let task = ClipTask {
@@ -229,8 +158,5 @@ pub fn rebuild_ball_in<N: NodeStore, L: Ledger>(
     };
     let _held = store.held();
     let _level = side.root_level();
-    match rebuild_world(store, side, &task, &mut NoMemo, steps) {
-        Ok(share) => Ok(share),
-        Err(e) => Err(e),
-    }
+    rebuild_world(store, side, &task, &mut NoMemo, steps)
 }

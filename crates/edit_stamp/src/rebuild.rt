@@ -1,9 +1,6 @@
-ghost use Rattle.std.specs.Prelude.{◌≡◌, ◌-◌, ◌≤◌, ◌^◌, IfOk, IfErr, OnOk, option_copied};
+ghost use Rattle.std.specs.Prelude.{◌^◌, option_copied};
 ghost use Rattle.vw_cell.specs.Places.{FitsAt};
-ghost use Rattle.node_words.specs.shapes.Weights.{number_of_trees};
-ghost use Rattle.node_words.specs.Gathering.{Grows, Fails};
-ghost use Rattle.edit_walk.specs.Roots.{HoldsRoot};
-ghost use Rattle.edit_walk.specs.cells.Worlds.{ForEdited, Rebuilt, world_shape};
+ghost use Rattle.edit_walk.specs.Edits.{MayEdit, Edits};
 ghost use Rattle.edit_stamp.specs.Stamps.{stamped, unstamped, inked};
 
 use crate::stamps::StampTask;
@@ -23,26 +20,13 @@ pub fn rebuild_stamp<N: NodeStore, L: Ledger>(
     at: Cell,
     steps: &mut Steps<L>,
 ) -> Result<Option<Share>, Full>
-    requires side { side ≡ (N.seen store.old).plan.side }
+    requires may { MayEdit 3910 (N.seen store.old) side (option_copied old) }
     requires inside { FitsAt at stencil.now.size (2 ^ side) }
-    requires old { HoldsRoot (N.seen store.old).held side (option_copied old) }
-    requires room { number_of_trees (N.seen store.old).held ≤ 3910 }
-    ensures ok { IfOk result (λ r.
-        ForEdited (N.seen store.old) side (option_copied old.entry) (stamped stencil.now at)
-        (λ world. Rebuilt (side - 2) world r (N.seen store.old) (N.seen store.new))) }
-    ensures grows { OnOk result (
-        ForEdited (N.seen store.old) side (option_copied old.entry) (stamped stencil.now at)
-        (λ world. Grows (world_shape (side - 2) world) (N.seen store.old) (N.seen store.new))) }
-    ensures full { IfErr result (λ e.
-        ForEdited (N.seen store.old) side (option_copied old.entry) (stamped stencil.now at)
-        (λ world. Fails (world_shape (side - 2) world) e.level e.bucket (N.seen store.old)
-        (N.seen store.new))) }
+    ensures made { Edits (N.seen store.old) side (option_copied old.entry)
+        (stamped stencil.now at) result (N.seen store.new) }
     ensures rests { N.rests store.old store.new }
 {
-    match ink(store, old, side, stencil, at, true, steps) {
-        Ok(share) => Ok(share),
-        Err(e) => Err(e),
-    }
+    ink(store, old, side, stencil, at, true, steps)
 }
 
 /// A share of the root of the world with the cells of a model cleared, whose least corner is at
@@ -55,26 +39,13 @@ pub fn rebuild_unstamp<N: NodeStore, L: Ledger>(
     at: Cell,
     steps: &mut Steps<L>,
 ) -> Result<Option<Share>, Full>
-    requires side { side ≡ (N.seen store.old).plan.side }
+    requires may { MayEdit 3910 (N.seen store.old) side (option_copied old) }
     requires inside { FitsAt at stencil.now.size (2 ^ side) }
-    requires old { HoldsRoot (N.seen store.old).held side (option_copied old) }
-    requires room { number_of_trees (N.seen store.old).held ≤ 3910 }
-    ensures ok { IfOk result (λ r.
-        ForEdited (N.seen store.old) side (option_copied old.entry) (unstamped stencil.now at)
-        (λ world. Rebuilt (side - 2) world r (N.seen store.old) (N.seen store.new))) }
-    ensures grows { OnOk result (
-        ForEdited (N.seen store.old) side (option_copied old.entry) (unstamped stencil.now at)
-        (λ world. Grows (world_shape (side - 2) world) (N.seen store.old) (N.seen store.new))) }
-    ensures full { IfErr result (λ e.
-        ForEdited (N.seen store.old) side (option_copied old.entry) (unstamped stencil.now at)
-        (λ world. Fails (world_shape (side - 2) world) e.level e.bucket (N.seen store.old)
-        (N.seen store.new))) }
+    ensures made { Edits (N.seen store.old) side (option_copied old.entry)
+        (unstamped stencil.now at) result (N.seen store.new) }
     ensures rests { N.rests store.old store.new }
 {
-    match ink(store, old, side, stencil, at, false, steps) {
-        Ok(share) => Ok(share),
-        Err(e) => Err(e),
-    }
+    ink(store, old, side, stencil, at, false, steps)
 }
 
 // A share of the root of the world with the cells of a model set or cleared.
@@ -88,20 +59,10 @@ fn ink<N: NodeStore, L: Ledger>(
     set: bool,
     steps: &mut Steps<L>,
 ) -> Result<Option<Share>, Full>
-    requires side { side ≡ (N.seen store.old).plan.side }
+    requires may { MayEdit 3910 (N.seen store.old) side (option_copied old) }
     requires inside { FitsAt at stencil.now.size (2 ^ side) }
-    requires old { HoldsRoot (N.seen store.old).held side (option_copied old) }
-    requires room { number_of_trees (N.seen store.old).held ≤ 3910 }
-    ensures ok { IfOk result (λ r.
-        ForEdited (N.seen store.old) side (option_copied old.entry) (inked set stencil.now at)
-        (λ world. Rebuilt (side - 2) world r (N.seen store.old) (N.seen store.new))) }
-    ensures grows { OnOk result (
-        ForEdited (N.seen store.old) side (option_copied old.entry) (inked set stencil.now at)
-        (λ world. Grows (world_shape (side - 2) world) (N.seen store.old) (N.seen store.new))) }
-    ensures full { IfErr result (λ e.
-        ForEdited (N.seen store.old) side (option_copied old.entry) (inked set stencil.now at)
-        (λ world. Fails (world_shape (side - 2) world) e.level e.bucket (N.seen store.old)
-        (N.seen store.new))) }
+    ensures made { Edits (N.seen store.old) side (option_copied old.entry)
+        (inked set stencil.now at) result (N.seen store.new) }
     ensures rests { N.rests store.old store.new }
 {
     let task = StampTask {
@@ -114,8 +75,5 @@ fn ink<N: NodeStore, L: Ledger>(
     let _held = store.held();
     let _cells = side.cells();
     let _level = side.root_level();
-    match rebuild_world(store, side, &task, &mut NoMemo, steps) {
-        Ok(share) => Ok(share),
-        Err(e) => Err(e),
-    }
+    rebuild_world(store, side, &task, &mut NoMemo, steps)
 }

@@ -1,3 +1,4 @@
+pub mod Edits
 pub mod Memos
 pub mod Walks
 pub mod cells

@@ -1,9 +1,10 @@
 -- What a walk over the blocks of a rebuild starts from, and what it leaves for each outcome.
-use Rattle.std.specs.Prelude.{ℕ, ◌-◌, Bool, Option, List}
+use Rattle.std.specs.Prelude.{ℕ, ◌+◌, ◌-◌, ◌*◌, ◌≤◌, max, Bool, Option, List, Result, Ok, Err}
 use Rattle.vw_cell.specs.declared.cells.Cell.{Cell}
 use Rattle.node_words.specs.declared.shapes.names.Name.{Name}
 use Rattle.node_words.specs.shapes.Shape.{Shape, octant_shape}
 use Rattle.node_words.specs.shapes.Tree.{Tree}
+use Rattle.node_words.specs.declared.shares.Full.{Full}
 use Rattle.node_words.specs.Held.{Seen}
 use Rattle.node_words.specs.Gathering.{Grows}
 use Rattle.node_words.proofs.HeldLaws.{Keeps}
@@ -11,7 +12,7 @@ use Rattle.node_words.specs.contents.CellShapes.{Cells, shape_with}
 use Rattle.edit_walk.specs.declared.cells.tasks.Whole.{Whole}
 use Rattle.edit_walk.specs.cells.Tasks.{Making, IsWhole}
 use Rattle.edit_walk.specs.cells.Worlds.{world_cells}
-use Rattle.edit_walk.specs.blocks.Blocks.{Aside, Came, Gathers, RefusesBlock}
+use Rattle.edit_walk.specs.blocks.Blocks.{Aside, Came, Gathers, StopsAside, height}
 use Rattle.edit_walk.specs.Memos.{Keeping, Recalls}
 
 -- the state of a walk: what the store is seen as, the full block kept aside, and what is remembered
@@ -64,35 +65,53 @@ ForBuilding makes level task walk P =
     (base rest : List Tree) (cells : Cells) → Begins makes base rest level task cells walk
     → P base rest cells
 
--- a share came of the block with the task's cells
-abbrev pub Builds : {T : Type 0} → (T → Making) → ℕ → T → Walk T → Option Name → Walk T → Type 0
-Builds makes level task old name new =
+-- a share of a block of this shape came; parts of it may have been made, and nothing met a full
+-- bucket
+pub record WalkedTo {T : Type 0} (makes : T → Making) (base rest : List Tree) (level : ℕ)
+    (target : Shape) (name : Option Name) (old new : Walk T) : Type 0 where
+  pub built : Built makes base rest level target name new
+  pub grows : Grows target old.seen new.seen
+
+-- or a part of it met this full bucket
+abbrev pub WalkCame : {T : Type 0} → (T → Making) → List Tree → List Tree → ℕ → Shape
+    → Result (Option Name) Full → Walk T → Walk T → Type 0
+WalkCame makes base rest level target (Ok name) old new =
+    WalkedTo makes base rest level target name old new
+WalkCame makes base rest level target (Err full) old new =
+    StopsAside rest target full old.seen new.seen new.full
+
+-- so the block with the task's cells was built
+abbrev pub WalksBlock : {T : Type 0} → (T → Making) → ℕ → T → Walk T → Result (Option Name) Full
+    → Walk T → Type 0
+WalksBlock makes level task old result new =
     ForBuilding makes level task old
-    (λ base rest cells. Built makes base rest level (shape_with level cells) name new)
+    (λ base rest cells. WalkCame makes base rest level (shape_with level cells) result old new)
 
 -- shares came of its octants
-abbrev pub GathersAll : {T : Type 0} → (T → Making) → ℕ → T → Walk T → List (Option Name) → Walk T
-    → Type 0
-GathersAll makes level task old children new =
-    ForBuilding makes level task old
-    (λ base rest cells. Partway makes base rest level task cells children 8 new)
+pub record GatheredAll {T : Type 0} (makes : T → Making) (base rest : List Tree) (level : ℕ)
+    (task : T) (cells : Cells) (children : List (Option Name)) (old new : Walk T) : Type 0 where
+  pub partway : Partway makes base rest level task cells children 8 new
+  pub grows : Grows (shape_with level cells) old.seen new.seen
 
--- parts of it may have been made, and nothing met a full bucket
-abbrev pub BuildsParts : {T : Type 0} → (T → Making) → ℕ → T → Walk T → Seen → Type 0
-BuildsParts makes level task old new =
-    ForBuilding makes level task old
-    (λ base rest cells. Grows (shape_with level cells) old.seen new)
+-- or a part of the block met this full bucket
+abbrev pub GatherCame : {T A : Type 0} → (T → Making) → List Tree → List Tree → ℕ → T → Cells
+    → List (Option Name) → Result A Full → Walk T → Walk T → Type 0
+GatherCame makes base rest level task cells children (Ok done) old new =
+    GatheredAll makes base rest level task cells children old new
+GatherCame makes base rest level task cells children (Err full) old new =
+    StopsAside rest (shape_with level cells) full old.seen new.seen new.full
 
--- a part of it met this full bucket
-abbrev pub StopsWalk : {T : Type 0} → (T → Making) → ℕ → T → Walk T → ℕ → ℕ → Seen → Type 0
-StopsWalk makes level task old at bucket new =
+abbrev pub WalksOctants : {T A : Type 0} → (T → Making) → ℕ → T → Walk T → List (Option Name)
+    → Result A Full → Walk T → Type 0
+WalksOctants makes level task old children result new =
     ForBuilding makes level task old
-    (λ base rest cells. RefusesBlock (shape_with level cells) at bucket old.seen new)
+    (λ base rest cells. GatherCame makes base rest level task cells children result old new)
 
--- the rest is held as it was, and a full block may be aside
-abbrev pub LeavesRest : {T : Type 0} → (T → Making) → ℕ → T → Walk T → Seen → Option Name → Type 0
-LeavesRest makes level task old new full =
-    ForBuilding makes level task old (λ base rest cells. Aside new.held full rest)
+-- so many turns beside 16 for each level by which the full block aside grew, and 25 for each mixed
+-- block; and how high it is now
+pub record TookTurns (own top mixed : ℕ) (before after : Option Name) (old new : ℕ) : Type 0 where
+  pub turns : new + 16 * height before ≤ old + 16 * height after + own + 25 * mixed
+  pub height_is : height after ≤ max (height before) top
 
 -- shares of the octants before octant k are in hand
 abbrev pub CanGoOn : {T : Type 0} → (T → Making) → ℕ → T → List (Option Name) → ℕ → Walk T → Type 0

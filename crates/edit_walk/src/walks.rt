@@ -1,14 +1,14 @@
-ghost use Rattle.std.specs.Prelude.{◌≡◌, ◌≢◌, ◌+◌, ◌*◌, ◌-◌, ◌^◌, ◌<◌, ◌≤◌, ℕ, None, IfOk, OnOk, IfErr, OnErr, max, replicate};
+ghost use Rattle.std.specs.Prelude.{◌≡◌, ◌≢◌, ◌+◌, ◌*◌, ◌-◌, ◌^◌, ◌<◌, ◌≤◌, ℕ, None, OnOk, OnErr, replicate};
 ghost use Rattle.vw_cell.specs.Sums.{sum_below};
 ghost use Rattle.node_words.specs.shapes.Weights.{number_of_trees};
 ghost use Rattle.node_words.specs.Held.{name_in};
-ghost use Rattle.node_words.specs.Gathering.{Comes, Grows, Fails};
 ghost use Rattle.node_words.specs.contents.CellShapes.{shape_with};
 ghost use Rattle.edit_walk.specs.cells.Tasks.{MakesCells, ForCells};
-ghost use Rattle.edit_walk.specs.blocks.Blocks.{height, Aside, Came, RefusesBlock};
+ghost use Rattle.edit_walk.specs.Edits.{MakesBlock};
+ghost use Rattle.edit_walk.specs.blocks.Blocks.{BlockCame};
 ghost use Rattle.edit_walk.specs.declared.memos.Kept.{Kept};
 ghost use Rattle.edit_walk.specs.Memos.{RecallsHeld};
-ghost use Rattle.edit_walk.specs.Walks.{walk_at, Built, CanBuild, Builds, BuildsParts, StopsWalk, LeavesRest, GathersAll, CanGoOn, ForOctant, CanBeWhole, ForWhole};
+ghost use Rattle.edit_walk.specs.Walks.{walk_at, CanBuild, TookTurns, WalksBlock, WalkCame, WalksOctants, CanGoOn, ForOctant, CanBeWhole, ForWhole};
 
 use crate::blocks::{again, back_all, back_if, full_block, join, leaf, named, put};
 use crate::cells::{Task, Whole};
@@ -31,20 +31,12 @@ fn build<T: Task, M: Memo<T>, N: NodeStore, L: Ledger>(
     requires task { CanBuild T.makes level task.now
         (walk_at (N.seen store.old) full.old (M.has memo.old)) }
     requires room { number_of_trees (N.seen store.old).held + 9 * level ≤ 4000 }
-    ensures ok { IfOk result (λ r. Builds T.makes level task.now
-        (walk_at (N.seen store.old) full.old (M.has memo.old)) r
-        (walk_at (N.seen store.new) full.new (M.has memo.new))) }
-    ensures grows { OnOk result (BuildsParts T.makes level task.now
-        (walk_at (N.seen store.old) full.old (M.has memo.old)) (N.seen store.new)) }
-    ensures full { IfErr result (λ e. StopsWalk T.makes level task.now
-        (walk_at (N.seen store.old) full.old (M.has memo.old)) e.level e.bucket
-        (N.seen store.new)) }
-    ensures rest { OnErr result (LeavesRest T.makes level task.now
-        (walk_at (N.seen store.old) full.old (M.has memo.old)) (N.seen store.new) full.new) }
+    ensures walked { WalksBlock T.makes level task.now
+        (walk_at (N.seen store.old) full.old (M.has memo.old)) result
+        (walk_at (N.seen store.new) full.new (M.has memo.new)) }
     ensures rests { N.rests store.old store.new }
-    ensures turns { OnOk result (steps.new + 16 * height full.old
-        ≤ steps.old + 16 * height full.new + 1 + 25 * T.mixed level task.now) }
-    ensures height { OnOk result (height full.new ≤ max (height full.old) (level + 1)) }
+    ensures took { OnOk result (TookTurns 1 (level + 1) (T.mixed level task.now) full.old full.new
+        steps.old steps.new) }
 {
     let whole = task.whole(level);
     if !whole.is_mixed() {
@@ -55,10 +47,7 @@ fn build<T: Task, M: Memo<T>, N: NodeStore, L: Ledger>(
     }
     match memo.find(level, task) {
         Some(kept) => Ok(again(store, kept.name, steps)),
-        None => match fresh(store, level, task, full, memo, steps) {
-            Ok(share) => Ok(share),
-            Err(e) => Err(e),
-        },
+        None => fresh(store, level, task, full, memo, steps),
     }
 }
 
@@ -78,20 +67,12 @@ fn fresh<T: Task, M: Memo<T>, N: NodeStore, L: Ledger>(
     requires room { number_of_trees (N.seen store.old).held + 9 * level ≤ 4000 }
     requires mixed { 1 ≤ level
         → 1 + sum_below 8 (T.mixed_in level task.now) ≤ T.mixed level task.now }
-    ensures ok { IfOk result (λ r. Builds T.makes level task.now
-        (walk_at (N.seen store.old) full.old (M.has memo.old)) r
-        (walk_at (N.seen store.new) full.new (M.has memo.new))) }
-    ensures grows { OnOk result (BuildsParts T.makes level task.now
-        (walk_at (N.seen store.old) full.old (M.has memo.old)) (N.seen store.new)) }
-    ensures full { IfErr result (λ e. StopsWalk T.makes level task.now
-        (walk_at (N.seen store.old) full.old (M.has memo.old)) e.level e.bucket
-        (N.seen store.new)) }
-    ensures rest { OnErr result (LeavesRest T.makes level task.now
-        (walk_at (N.seen store.old) full.old (M.has memo.old)) (N.seen store.new) full.new) }
+    ensures walked { WalksBlock T.makes level task.now
+        (walk_at (N.seen store.old) full.old (M.has memo.old)) result
+        (walk_at (N.seen store.new) full.new (M.has memo.new)) }
     ensures rests { N.rests store.old store.new }
-    ensures turns { OnOk result (steps.new + 16 * height full.old
-        ≤ steps.old + 16 * height full.new + 1 + 25 * T.mixed level task.now) }
-    ensures height { OnOk result (height full.new ≤ max (height full.old) (level + 1)) }
+    ensures took { OnOk result (TookTurns 1 (level + 1) (T.mixed level task.now) full.old full.new
+        steps.old steps.new) }
 {
     match made(store, level, task, full, memo, steps) {
         Ok(share) => {
@@ -123,20 +104,12 @@ fn made<T: Task, M: Memo<T>, N: NodeStore, L: Ledger>(
     requires room { number_of_trees (N.seen store.old).held + 9 * level ≤ 4000 }
     requires mixed { 1 ≤ level
         → 1 + sum_below 8 (T.mixed_in level task.now) ≤ T.mixed level task.now }
-    ensures ok { IfOk result (λ r. Builds T.makes level task.now
-        (walk_at (N.seen store.old) full.old (M.has memo.old)) r
-        (walk_at (N.seen store.new) full.new (M.has memo.new))) }
-    ensures grows { OnOk result (BuildsParts T.makes level task.now
-        (walk_at (N.seen store.old) full.old (M.has memo.old)) (N.seen store.new)) }
-    ensures full { IfErr result (λ e. StopsWalk T.makes level task.now
-        (walk_at (N.seen store.old) full.old (M.has memo.old)) e.level e.bucket
-        (N.seen store.new)) }
-    ensures rest { OnErr result (LeavesRest T.makes level task.now
-        (walk_at (N.seen store.old) full.old (M.has memo.old)) (N.seen store.new) full.new) }
+    ensures walked { WalksBlock T.makes level task.now
+        (walk_at (N.seen store.old) full.old (M.has memo.old)) result
+        (walk_at (N.seen store.new) full.new (M.has memo.new)) }
     ensures rests { N.rests store.old store.new }
-    ensures turns { OnOk result (steps.new + 16 * height full.old
-        ≤ steps.old + 16 * height full.new + 1 + 25 * T.mixed level task.now) }
-    ensures height { OnOk result (height full.new ≤ max (height full.old) (level + 1)) }
+    ensures took { OnOk result (TookTurns 1 (level + 1) (T.mixed level task.now) full.old full.new
+        steps.old steps.new) }
 {
     if level == 0 {
         let bits = task.bits(store);
@@ -171,19 +144,11 @@ fn known<N: NodeStore, L: Ledger>(
     requires known { CanBeWhole level whole (N.seen store.old) full.old }
     requires whole { whole ≢ Whole.Mixed }
     requires room { number_of_trees (N.seen store.old).held ≤ 4000 }
-    ensures ok { IfOk result (λ r. ForWhole level whole (N.seen store.old) full.old
-        (λ rest target. Came rest level target r (N.seen store.new).held full.new)) }
-    ensures grows { OnOk result (ForWhole level whole (N.seen store.old) full.old
-        (λ rest target. Grows target (N.seen store.old) (N.seen store.new))) }
-    ensures full { IfErr result (λ e. ForWhole level whole (N.seen store.old) full.old
-        (λ rest target. RefusesBlock target e.level e.bucket (N.seen store.old)
-        (N.seen store.new))) }
-    ensures rest { OnErr result (ForWhole level whole (N.seen store.old) full.old
-        (λ rest target. Aside (N.seen store.new).held full.new rest)) }
+    ensures came { ForWhole level whole (N.seen store.old) full.old
+        (λ rest target. BlockCame rest level target result (N.seen store.old) (N.seen store.new)
+        full.new) }
     ensures rests { N.rests store.old store.new }
-    ensures turns { OnOk result
-        (steps.new + 16 * height full.old ≤ steps.old + 16 * height full.new + 1) }
-    ensures height { OnOk result (height full.new ≤ max (height full.old) (level + 1)) }
+    ensures took { OnOk result (TookTurns 1 (level + 1) 0 full.old full.new steps.old steps.new) }
 {
     match whole {
         Whole::Nothing | Whole::Mixed => Ok(None),
@@ -212,21 +177,13 @@ fn gather<T: Task, M: Memo<T>, N: NodeStore, L: Ledger>(
     requires task { CanBuild T.makes level task.now
         (walk_at (N.seen store.old) full.old (M.has memo.old)) }
     requires room { number_of_trees (N.seen store.old).held + 9 * level ≤ 4000 }
-    ensures ok { OnOk result (GathersAll T.makes level task.now
-        (walk_at (N.seen store.old) full.old (M.has memo.old)) children.new
-        (walk_at (N.seen store.new) full.new (M.has memo.new))) }
-    ensures grows { OnOk result (BuildsParts T.makes level task.now
-        (walk_at (N.seen store.old) full.old (M.has memo.old)) (N.seen store.new)) }
-    ensures full { IfErr result (λ e. StopsWalk T.makes level task.now
-        (walk_at (N.seen store.old) full.old (M.has memo.old)) e.level e.bucket
-        (N.seen store.new)) }
-    ensures rest { OnErr result (LeavesRest T.makes level task.now
-        (walk_at (N.seen store.old) full.old (M.has memo.old)) (N.seen store.new) full.new) }
+    ensures walked { WalksOctants T.makes level task.now
+        (walk_at (N.seen store.old) full.old (M.has memo.old)) children.new result
+        (walk_at (N.seen store.new) full.new (M.has memo.new)) }
     ensures none { OnErr result ((k : ℕ) → k < 8 → name_in children.new k ≡ None) }
     ensures rests { N.rests store.old store.new }
-    ensures turns { OnOk result (steps.new + 16 * height full.old
-        ≤ steps.old + 16 * height full.new + 8 + 25 * sum_below 8 (T.mixed_in level task.now)) }
-    ensures height { OnOk result (height full.new ≤ max (height full.old) level) }
+    ensures took { OnOk result (TookTurns 8 level (sum_below 8 (T.mixed_in level task.now)) full.old
+        full.new steps.old steps.new) }
 {
     for k in 0..8usize {
         match octant(store, level, task, k as u8, children, full, memo, steps) {
@@ -266,24 +223,14 @@ fn octant<T: Task, M: Memo<T>, N: NodeStore, L: Ledger>(
     requires task { CanGoOn T.makes level task.now children.now k
         (walk_at (N.seen store.old) full.old (M.has memo.old)) }
     requires room { number_of_trees (N.seen store.old).held + 9 * (level - 1) ≤ 4000 }
-    ensures ok { IfOk result (λ r. ForOctant T.makes level task.now children.now k
+    ensures walked { ForOctant T.makes level task.now children.now k
         (walk_at (N.seen store.old) full.old (M.has memo.old))
-        (λ base rest target. Built T.makes base rest (level - 1) target r
-        (walk_at (N.seen store.new) full.new (M.has memo.new)))) }
-    ensures grows { OnOk result (ForOctant T.makes level task.now children.now k
+        (λ base rest target. WalkCame T.makes base rest (level - 1) target result
         (walk_at (N.seen store.old) full.old (M.has memo.old))
-        (λ base rest target. Grows target (N.seen store.old) (N.seen store.new))) }
-    ensures full { IfErr result (λ e. ForOctant T.makes level task.now children.now k
-        (walk_at (N.seen store.old) full.old (M.has memo.old))
-        (λ base rest target. RefusesBlock target e.level e.bucket (N.seen store.old)
-        (N.seen store.new))) }
-    ensures rest { OnErr result (ForOctant T.makes level task.now children.now k
-        (walk_at (N.seen store.old) full.old (M.has memo.old))
-        (λ base rest target. Aside (N.seen store.new).held full.new rest)) }
+        (walk_at (N.seen store.new) full.new (M.has memo.new))) }
     ensures rests { N.rests store.old store.new }
-    ensures turns { OnOk result (steps.new + 16 * height full.old
-        ≤ steps.old + 16 * height full.new + 1 + 25 * T.mixed_in level task.now k) }
-    ensures height { OnOk result (height full.new ≤ max (height full.old) level) }
+    ensures took { OnOk result (TookTurns 1 level (T.mixed_in level task.now k) full.old full.new
+        steps.old steps.new) }
 {
     let part = task.octant(store, level, k);
     match build(store, level - 1, &part, full, memo, steps) {
@@ -308,14 +255,9 @@ pub fn rebuild<T: Task, M: Memo<T>, N: NodeStore, L: Ledger>(
     requires memo { RecallsHeld T.makes (N.seen store.old).held (M.has memo.old) }
     requires task { MakesCells (T.makes task.now) (N.seen store.old).held level }
     requires room { number_of_trees (N.seen store.old).held ≤ 3910 }
-    ensures ok { IfOk result (λ r. ForCells (T.makes task.now) (N.seen store.old).held level
-        (λ base cells. Comes (N.seen store.old).held level (shape_with level cells) r
-        (N.seen store.new).held)) }
-    ensures grows { OnOk result (ForCells (T.makes task.now) (N.seen store.old).held level
-        (λ base cells. Grows (shape_with level cells) (N.seen store.old) (N.seen store.new))) }
-    ensures full { IfErr result (λ e. ForCells (T.makes task.now) (N.seen store.old).held level
-        (λ base cells. Fails (shape_with level cells) e.level e.bucket (N.seen store.old)
-        (N.seen store.new))) }
+    ensures made { ForCells (T.makes task.now) (N.seen store.old).held level
+        (λ base cells. MakesBlock level (shape_with level cells) result (N.seen store.old)
+        (N.seen store.new)) }
     ensures memo { OnOk result (RecallsHeld T.makes (N.seen store.new).held (M.has memo.new)) }
     ensures rests { N.rests store.old store.new }
     ensures turns { OnOk result

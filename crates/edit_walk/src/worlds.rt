@@ -1,7 +1,6 @@
-ghost use Rattle.std.specs.Prelude.{◌≡◌, ◌+◌, ◌-◌, ◌*◌, ◌≤◌, ℕ, IfOk, IfErr, OnOk};
+ghost use Rattle.std.specs.Prelude.{◌≡◌, ◌+◌, ◌-◌, ◌*◌, ◌≤◌, ℕ, OnOk};
 ghost use Rattle.node_words.specs.shapes.Weights.{number_of_trees};
-ghost use Rattle.node_words.specs.Gathering.{Grows, Fails};
-ghost use Rattle.edit_walk.specs.cells.Worlds.{world_shape, Rebuilt};
+ghost use Rattle.edit_walk.specs.Edits.{Rebuilds};
 ghost use Rattle.edit_walk.specs.Memos.{RecallsHeld};
 ghost use Rattle.edit_walk.specs.Walks.{MakesWorld, ForWorlds};
 
@@ -25,21 +24,13 @@ pub fn rebuild_world<T: Task, M: Memo<T>, N: NodeStore, L: Ledger>(
     requires memo { RecallsHeld T.makes (N.seen store.old).held (M.has memo.old) }
     requires task { MakesWorld (T.makes task.now) (N.seen store.old).held side }
     requires room { number_of_trees (N.seen store.old).held ≤ 3910 }
-    ensures ok { IfOk result (λ r. ForWorlds (T.makes task.now) (N.seen store.old).held side
-        (λ world. Rebuilt (side - 2) world r (N.seen store.old) (N.seen store.new))) }
-    ensures grows { OnOk result (ForWorlds (T.makes task.now) (N.seen store.old).held side
-        (λ world. Grows (world_shape (side - 2) world) (N.seen store.old) (N.seen store.new))) }
-    ensures full { IfErr result (λ e. ForWorlds (T.makes task.now) (N.seen store.old).held side
-        (λ world. Fails (world_shape (side - 2) world) e.level e.bucket (N.seen store.old)
-        (N.seen store.new))) }
+    ensures made { ForWorlds (T.makes task.now) (N.seen store.old).held side
+        (λ world. Rebuilds (side - 2) world result (N.seen store.old) (N.seen store.new)) }
     ensures memo { OnOk result (RecallsHeld T.makes (N.seen store.new).held (M.has memo.new)) }
     ensures rests { N.rests store.old store.new }
     ensures turns { OnOk result
         (steps.new ≤ steps.old + 25 * T.mixed (side - 2) task.now + 25 * (side - 1)) }
 {
     let level = side.root_level();
-    match rebuild(store, level, task, memo, steps) {
-        Ok(share) => Ok(share),
-        Err(e) => Err(e),
-    }
+    rebuild(store, level, task, memo, steps)
 }

@@ -8,27 +8,15 @@ use Rattle.history_model.specs.Logs.{suits_tints}
 use Rattle.node_words.specs.declared.shapes.names.Name.{Name}
 use Rattle.node_words.specs.declared.shares.Full.{Full}
 use Rattle.node_words.specs.Held.{Seen}
-use Rattle.act_rebuilds.specs.Edits.{RebuildsEdit, GrowsByEdit, RefusesEdit}
-use Rattle.act_rebuilds.specs.Acts.{RebuildsAct, GrowsByAct, RefusesAct}
-use Rattle.act_rebuilds.proofs.PlainActs.{plainly_rebuilds, plainly_grows, plainly_refuses}
+use Rattle.act_rebuilds.specs.Acts.{MakesAct}
+use Rattle.act_rebuilds.specs.Edits.{Edits}
+use Rattle.act_rebuilds.proofs.PlainActs.{plainly_makes}
 
 module _ (old new : Seen) (side : ℕ) (root : Option Name) (models : List Content) (act : Act)
     (plain : suits_tints false act ≡ true) (same : edited [] act ≡ edited models act)
     (result : Result (Option Name) Full) where
-  pub made_plainly : RebuildsEdit old side root (edited [] act) result new
-      → RebuildsAct old side root models act result new
-  made_plainly h =
-      plainly_rebuilds old new side root models act plain result
-      (subst (λ (f : World → World). RebuildsEdit old side root f result new) same h)
-
-  pub grown_plainly : GrowsByEdit old side root (edited [] act) result new
-      → GrowsByAct old side root models act result new
-  grown_plainly h =
-      plainly_grows old new side root models act plain result
-      (subst (λ (f : World → World). GrowsByEdit old side root f result new) same h)
-
-  pub refused_plainly : RefusesEdit old side root (edited [] act) result new
-      → RefusesAct old side root models act result new
-  refused_plainly h =
-      plainly_refuses old new side root models act plain result
-      (subst (λ (f : World → World). RefusesEdit old side root f result new) same h)
+  pub made_plainly : Edits old side root (edited [] act) result new
+      → MakesAct old side root models act result new
+  made_plainly edits =
+      plainly_makes old new side root models act plain result
+      (subst (λ (f : World → World). Edits old side root f result new) same edits)

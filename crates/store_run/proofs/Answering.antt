@@ -5,7 +5,6 @@ use Rattle.history_model.specs.declared.acts.Act.{Act}
 use Rattle.history_model.specs.declared.acts.Act.TheVariants.{Fill, Erase, Ball, Carve, Copy, Stamp, Tint, Undo, Redo}
 use Rattle.history_model.specs.declared.histories.Mark.{Mark}
 use Rattle.history_model.specs.declared.histories.Record.{Record}
-use Rattle.history_model.specs.declared.questions.Question.TheVariants as questions
 use Rattle.history_model.specs.Logs.{Log}
 use Rattle.history_model.specs.Worlds.{is_edit}
 use Rattle.node_words.specs.shapes.Shape.{Shape}
@@ -18,7 +17,7 @@ use Rattle.script.specs.declared.commands.ScriptLine.{ScriptLine}
 use Rattle.transcript.specs.declared.answers.Answer.{Answer}
 use Rattle.transcript.specs.declared.answers.Answer.TheVariants as answers
 use Rattle.transcript.specs.declared.answers.LineAnswer.{LineAnswer}
-use Rattle.conformance.specs.Answers.{IsStanding, IsReadable, IsForgotten, Answers, same, no_version, forgotten, is_head, nothing_to_undo, nothing_to_redo, log_full, Names, target_at}
+use Rattle.conformance.specs.Answers.{IsStanding, IsReadable, IsForgotten, Answers, no_version, forgotten, is_head, nothing_to_undo, nothing_to_redo, log_full, Names, target_at}
 use Rattle.conformance.specs.Kinds.{is_resting, answer_at, IsAfter}
 use Rattle.conformance.specs.Refusing.{refused_by}
 use Rattle.conformance.specs.Running.{IsSoFar, GrowsByRecord}

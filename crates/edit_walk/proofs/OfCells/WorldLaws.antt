@@ -1,5 +1,6 @@
 -- Edits in the words of worlds: from the root that is held, to the root that came.
 use Rattle.std.proofs.Common.{◌≡◌, ℕ, zero, suc, ◌+◌, ◌-◌, ◌*◌, ◌^◌, ◌<◌, ◌≤◌, Bool, Some, None, Option, List, refl, sym, ◌∙◌, ap, subst, arith, zero-add}
+use Rattle.std.specs.Prelude.{Result, Ok, Err, OnOk}
 use Rattle.std.proofs.Math.Nat.{mul_comm}
 use lib.Pow.{pow_mono}
 use Rattle.vw_cell.specs.declared.cells.Cell.{Cell}
@@ -12,11 +13,13 @@ use Rattle.node_words.specs.shapes.Tree.{Tree, Gone, LeafAt, NodeAt, root_of, sh
 use Rattle.node_words.proofs.OfShapes.ShapeLaws.{has-clear, clear_canonical, block_side-suc, halves}
 use Rattle.node_words.proofs.OfShapes.TreeLaws.{gone_at, shape_of-gone, gone_from_root}
 use Rattle.node_words.specs.kernels.Leaves.{LeafShows}
+use Rattle.node_words.specs.declared.shares.Full.{Full}
 use Rattle.node_words.specs.Held.{Seen, AreTrees, AreCanonical}
 use Rattle.node_words.specs.Gathering.{Comes}
 use Rattle.node_words.proofs.HeldLaws.{held_reached, reached_levels}
 use Rattle.node_words.specs.contents.CellShapes.{Cells, SameIn, octant_cells}
 use Rattle.node_words.specs.descent.Roots.{HoldsRoot}
+use Rattle.edit_walk.specs.Edits.{MakesBlock, Rebuilds}
 use Rattle.edit_walk.specs.cells.Paints.{IsOld}
 use Rattle.edit_walk.specs.cells.Worlds.{ShowsWorld, block_at_origin, world_cells, world_shape, IsRoot, IsEmptyWorld, Rebuilt, cells_from}
 use Rattle.edit_walk.specs.cells.Tasks.{blocks_in}
@@ -165,6 +168,24 @@ comes_rebuilt old new level world name c =
       );
       weighs = c.weighs;
     }
+
+-- or it met a full bucket
+pub root_made : (old new : Seen) (level : ℕ) (world : Cell → Bool)
+    (result : Result (Option Name) Full) → MakesBlock level (world_shape level world) result old new
+    → Rebuilds level world result old new
+root_made old new level world (Ok name) made = record {
+  came = comes_rebuilt old new level world name made.came;
+  grows = made.grows;
+}
+root_made old new level world (Err full) fails = fails
+
+-- the turns of a block of the root's level are those of the root
+pub root_turns : (result : Result (Option Name) Full) (mixed : ℕ → ℕ) (old new level side : ℕ)
+    → level ≡ side - 2 → 2 ≤ side → OnOk result (new ≤ old + 25 * mixed level + 25 * (level + 1))
+    → OnOk result (new ≤ old + 25 * mixed (side - 2) + 25 * (side - 1))
+root_turns (Ok name) mixed old new level side e two h =
+    let same : mixed level ≡ mixed (side - 2) = ap mixed e in omega (arith, e, same, two, h)
+root_turns (Err full) mixed old new level side e two h = tt
 
 one_further : (a s h x : ℕ) → a + (h * s + x) ≡ a + s * h + x
 one_further a s h x = let e : h * s ≡ s * h = mul_comm h s in omega (arith, e)

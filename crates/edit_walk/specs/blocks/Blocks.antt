@@ -1,12 +1,13 @@
 -- Shares of blocks that a rebuild has in hand besides the rest of what is held, and what each
 -- outcome leaves.
-use Rattle.std.specs.Prelude.{◌≡◌, ℕ, ◌+◌, ◌-◌, ◌≤◌, Option, Some, None, List, ◌∷◌}
+use Rattle.std.specs.Prelude.{◌≡◌, ℕ, ◌+◌, ◌-◌, ◌≤◌, Option, Some, None, List, ◌∷◌, Result, Ok, Err}
 use Rattle.node_words.specs.declared.shapes.names.Name.{Name}
 use Rattle.node_words.specs.shapes.Shape.{Shape, IsCanonical, IsPart}
 use Rattle.node_words.specs.shapes.Tree.{Tree, root_of, shape_of, IsTreeAt}
 use Rattle.node_words.specs.shapes.Weights.{weigh, weight_of}
-use Rattle.node_words.specs.Held.{Seen, IsSought, IsReached, ReturnsWithin}
-use Rattle.node_words.specs.Gathering.{IsTreeOf, Comes, Grew, Gathered, MayHold, Loses}
+use Rattle.node_words.specs.declared.shares.Full.{Full}
+use Rattle.node_words.specs.Held.{Seen, IsSought, IsReached, OnlyMeets, ReturnsWithin}
+use Rattle.node_words.specs.Gathering.{IsTreeOf, Comes, Grew, Grows, Gathered, MayHold, Loses}
 use Rattle.node_words.specs.contents.CellShapes.{leaf_shape, full_shape}
 
 -- t is the tree of a full block of the name's level, and reached
@@ -57,6 +58,36 @@ pub record RefusesBlock (target : Shape) (level bucket : ℕ) (old new : Seen) :
   pub sought : IsSought old.plan (record { level = level; bucket = bucket; shape = wanted })
   pub met : new.met ≡ record { level = level; bucket = bucket; shape = wanted } ∷ old.met
 
+-- besides the rest and the full block aside a share of such a block came; parts of it may have been
+-- made, and nothing met a full bucket
+pub record CameTo (rest : List Tree) (level : ℕ) (target : Shape) (name : Option Name)
+    (old new : Seen) (after : Option Name) : Type 0 where
+  pub came : Came rest level target name new.held after
+  pub grows : Grows target old new
+
+-- or a part of it met this full bucket: the rest is held as it was, and a full block may be aside
+pub record StopsAside (rest : List Tree) (target : Shape) (full : Full) (old new : Seen)
+    (after : Option Name) : Type 0 where
+  pub refuses : RefusesBlock target full.level full.bucket old new
+  pub aside : Aside new.held after rest
+
+abbrev pub BlockCame : List Tree → ℕ → Shape → Result (Option Name) Full → Seen → Seen
+    → Option Name → Type 0
+BlockCame rest level target (Ok name) old new after = CameTo rest level target name old new after
+BlockCame rest level target (Err full) old new after = StopsAside rest target full old new after
+
+-- the same of a block of what was gathered
+pub record JoinedTo (rest was : List Tree) (level : ℕ) (target : Shape) (name : Option Name)
+    (old new : Seen) (after : Option Name) : Type 0 where
+  pub joined : Joined rest was level target name new.held after
+  pub grows : Grows target old new
+
+abbrev pub JoinCame : List Tree → List Tree → ℕ → Shape → Result (Option Name) Full → Seen → Seen
+    → Option Name → Type 0
+JoinCame rest was level target (Ok name) old new after =
+    JoinedTo rest was level target name old new after
+JoinCame rest was level target (Err full) old new after = StopsAside rest target full old new after
+
 -- how many levels of full blocks there are, up to the one kept aside
 abbrev pub height : Option Name → ℕ
 height None = 0
@@ -99,6 +130,15 @@ abbrev pub LeafBeside : ℕ → Option Name → Seen → Seen → Type 0
 LeafBeside bits name old new =
     (rest : List Tree) (full : Option Name) → Aside old.held full rest
     → Came rest 0 (leaf_shape bits) name new.held full
+
+-- so it did, and nothing met a full bucket; or it met this one
+pub record MadeLeaf (bits : ℕ) (name : Option Name) (old new : Seen) : Type 0 where
+  pub came : LeafBeside bits name old new
+  pub grows : Grows (leaf_shape bits) old new
+
+abbrev pub MakesLeaf : ℕ → Result (Option Name) Full → Seen → Seen → Type 0
+MakesLeaf bits (Ok name) old new = MadeLeaf bits name old new
+MakesLeaf bits (Err full) old new = OnlyMeets old full.level full.bucket (leaf_shape bits) new
 
 -- the name is of a block that is reached, or of none
 abbrev pub HasTree : List Tree → Option Name → Type 0

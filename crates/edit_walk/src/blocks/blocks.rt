@@ -1,11 +1,7 @@
-ghost use Rattle.std.specs.Prelude.{◌≡◌, ◌+◌, ◌-◌, ◌^◌, ◌<◌, ◌≤◌, ℕ, List, Option, None, IfOk, IfErr, OnOk, OnErr, IsTrue};
-ghost use Rattle.node_words.specs.declared.shapes.names.Name.{Name};
-ghost use Rattle.node_words.specs.shapes.Tree.{Tree};
+ghost use Rattle.std.specs.Prelude.{◌≡◌, ◌+◌, ◌-◌, ◌^◌, ◌<◌, ◌≤◌, ℕ, None, OnOk, IsTrue};
 ghost use Rattle.node_words.specs.shapes.Weights.{number_of_trees};
-ghost use Rattle.node_words.specs.Held.{OnlyMeets, HasChild, name_in};
-ghost use Rattle.node_words.specs.Gathering.{Grows};
-ghost use Rattle.node_words.specs.contents.CellShapes.{leaf_shape};
-ghost use Rattle.edit_walk.specs.blocks.Blocks.{Aside, Joined, RefusesBlock, HasOctants, ForOctants, LeafBeside};
+ghost use Rattle.node_words.specs.Held.{HasChild, name_in};
+ghost use Rattle.edit_walk.specs.blocks.Blocks.{JoinCame, HasOctants, ForOctants, MakesLeaf};
 
 use crate::blocks::rows::back_all;
 use node_words::{Full, NodeRefused, NodeStore, Share, Steps, end_all};
@@ -18,10 +14,7 @@ pub fn leaf<N: NodeStore, L: Ledger>(
     steps: &mut Steps<L>,
 ) -> Result<Option<Share>, Full>
     requires room { number_of_trees (N.seen store.old).held ≤ 4095 }
-    ensures ok { IfOk result (λ r. LeafBeside bits r (N.seen store.old) (N.seen store.new)) }
-    ensures grows { OnOk result (Grows (leaf_shape bits) (N.seen store.old) (N.seen store.new)) }
-    ensures full { IfErr result
-        (λ e. OnlyMeets (N.seen store.old) e.level e.bucket (leaf_shape bits) (N.seen store.new)) }
+    ensures made { MakesLeaf bits result (N.seen store.old) (N.seen store.new) }
     ensures rests { N.rests store.old store.new }
     ensures turns { steps.new ≤ steps.old + 1 }
 {
@@ -45,15 +38,9 @@ pub fn join<N: NodeStore, L: Ledger>(
     requires level { (1 ≤ level) × (level + 2 ≤ (N.seen store.old).plan.side) }
     requires octants { HasOctants level children (N.seen store.old) }
     requires room { number_of_trees (N.seen store.old).held ≤ 4008 }
-    ensures ok { IfOk result (λ r. ForOctants level children (N.seen store.old)
-        (λ rest full target was. Joined rest was level target r (N.seen store.new).held full)) }
-    ensures grows { OnOk result (ForOctants level children (N.seen store.old)
-        (λ rest full target was. Grows target (N.seen store.old) (N.seen store.new))) }
-    ensures full { IfErr result (λ e. ForOctants level children (N.seen store.old)
-        (λ rest full target was. RefusesBlock target e.level e.bucket (N.seen store.old)
-        (N.seen store.new))) }
-    ensures back { OnErr result (ForOctants level children (N.seen store.old)
-        (λ rest full target was. Aside (N.seen store.new).held full rest)) }
+    ensures joined { ForOctants level children (N.seen store.old)
+        (λ rest full target was. JoinCame rest was level target result (N.seen store.old)
+        (N.seen store.new) full) }
     ensures rests { N.rests store.old store.new }
     ensures turns { OnOk result (steps.new ≤ steps.old + 9) }
 {

@@ -1,6 +1,6 @@
 -- Roots that a test holds.
 use Rattle.std.proofs.Common.{Bool, ◌≡◌, ℕ, ◌-◌, ◌≤◌, Some, None, Option, List, [], ◌∷◌, refl, sym, subst, ◌∙◌, ap, arith}
-use Rattle.std.specs.Prelude.{IfSome}
+use Rattle.std.specs.Prelude.{IfSome, Ok}
 use Rattle.vw_cell.specs.declared.cells.Cell.{Cell}
 use Rattle.node_words.specs.declared.shapes.names.Name.{Name}
 use Rattle.node_words.specs.shapes.Tree.{Tree, Gone, root_of}
@@ -10,7 +10,8 @@ use Rattle.node_words.proofs.OfShapes.WeightLaws.{weight_of-there, weight_of-gon
 use Rattle.node_words.specs.Held.{Seen, HoldsName}
 use Rattle.node_words.specs.Gathering.{MayHold, Loses}
 use Rattle.node_words.specs.descent.Roots.{HoldsRoot}
-use Rattle.edit_walk.specs.cells.Worlds.{ForEdited, Rebuilt}
+use Rattle.edit_walk.specs.Edits.{MayEdit, Edits}
+use Rattle.edit_walk.specs.cells.Worlds.{Rebuilt}
 use Rattle.edit_walk.proofs.OfCells.WorldLaws.{root_shown}
 use Rattle.one_store.specs.Known.{Known, stored_root, root_tree}
 use Rattle.one_store.specs.Steps.{GivesRoot}
@@ -76,13 +77,10 @@ pub two_still : (a b : Seen) (level : ℕ) (old new : Option Name) → b ≡ a
 two_still a b level old new e h = subst (λ (s : Seen). HoldsTwo s.held level old new) (sym e) h
 
 -- a version came
-pub rebuilt_two : (old new : Seen) (side : ℕ) (root name : Option Name)
-    (edit : (Cell → Bool) → Cell → Bool) → HoldsOnly old.held (side - 2) root
-    → ForEdited old side root edit (λ world. Rebuilt (side - 2) world name old new)
+pub rebuilt_two : (old new : Seen) (side : ℕ) (root name : Option Name) (world : Cell → Bool)
+    → HoldsOnly old.held (side - 2) root → Rebuilt (side - 2) world name old new
     → HoldsTwo new.held (side - 2) root name
-rebuilt_two old new side root name edit h r =
-    let (before, w) = root_shown old.held side root (only_root old.held side root h) in
-    let b = r before w in
+rebuilt_two old new side root name world h b =
     record {
       before = h.tree;
       after = b.tree;
@@ -101,6 +99,22 @@ pub same_only : (old new : List Tree) (level : ℕ) (root : Option Name)
     → HoldsOnly new level root
 same_only old new level root e h =
     record { tree = h.tree; is_root = h.is_root; weighs = λ f. omega (arith, e f, h.weighs f) }
+
+-- what an edit needs, and what it leaves
+pub only_edit : (seen : Seen) (side : ℕ) (root : Option Name) → side ≡ seen.plan.side
+    → HoldsOnly seen.held (side - 2) root → MayEdit 3910 seen side root
+only_edit seen side root e h = record {
+  side_is = e;
+  root_is = only_root seen.held side root h;
+  room = omega (arith, only_number seen.held (side - 2) root h);
+}
+
+pub edited_two : (old new : Seen) (side : ℕ) (root name : Option Name)
+    (edit : (Cell → Bool) → Cell → Bool) → HoldsOnly old.held (side - 2) root
+    → Edits old side root edit (Ok name) new → HoldsTwo new.held (side - 2) root name
+edited_two old new side root name edit h edits =
+    let (before, w) = root_shown old.held side root (only_root old.held side root h) in
+    rebuilt_two old new side root name (edit before) h (edits before w).came
 
 -- one of two roots may go back, and then the other is held alone
 pub old_may : (held : List Tree) (level : ℕ) (old new : Option Name)

@@ -10,31 +10,31 @@ pub returns-in-Fill-clause-made : goal.returns-in-Fill-clause-made
 returns-in-Fill-clause-made g c =
     edit_makes (g.N.Blocks.seen c.args.store.now) (g.N.Blocks.seen c.rebuild_box.new.store) c.args.side
     (option_copied c.args.old) c.args.models.now.models c.args.act (Fill c.in-Fill.b)
-    c.rebuild_box.result c.in-Fill.is refl c.rebuild_box.ensures.ok c.rebuild_box.ensures.grows c.rebuild_box.ensures.full
+    c.rebuild_box.result c.in-Fill.is refl c.rebuild_box.ensures.made
 
 pub returns-in-Erase-clause-made : goal.returns-in-Erase-clause-made
 returns-in-Erase-clause-made g c =
     edit_makes (g.N.Blocks.seen c.args.store.now) (g.N.Blocks.seen c.rebuild_box-in-Erase.new.store) c.args.side
     (option_copied c.args.old) c.args.models.now.models c.args.act (Erase c.in-Erase.b)
-    c.rebuild_box-in-Erase.result c.in-Erase.is refl c.rebuild_box-in-Erase.ensures.ok c.rebuild_box-in-Erase.ensures.grows c.rebuild_box-in-Erase.ensures.full
+    c.rebuild_box-in-Erase.result c.in-Erase.is refl c.rebuild_box-in-Erase.ensures.made
 
 pub returns-in-Ball-clause-made : goal.returns-in-Ball-clause-made
 returns-in-Ball-clause-made g c =
     edit_makes (g.N.Blocks.seen c.args.store.now) (g.N.Blocks.seen c.rebuild_ball.new.store) c.args.side
     (option_copied c.args.old) c.args.models.now.models c.args.act (Ball c.in-Ball.ball)
-    c.rebuild_ball.result c.in-Ball.is refl c.rebuild_ball.ensures.ok c.rebuild_ball.ensures.grows c.rebuild_ball.ensures.full
+    c.rebuild_ball.result c.in-Ball.is refl c.rebuild_ball.ensures.made
 
 pub returns-in-Carve-clause-made : goal.returns-in-Carve-clause-made
 returns-in-Carve-clause-made g c =
     edit_makes (g.N.Blocks.seen c.args.store.now) (g.N.Blocks.seen c.rebuild_ball-in-Carve.new.store) c.args.side
     (option_copied c.args.old) c.args.models.now.models c.args.act (Carve c.in-Carve.ball)
-    c.rebuild_ball-in-Carve.result c.in-Carve.is refl c.rebuild_ball-in-Carve.ensures.ok c.rebuild_ball-in-Carve.ensures.grows c.rebuild_ball-in-Carve.ensures.full
+    c.rebuild_ball-in-Carve.result c.in-Carve.is refl c.rebuild_ball-in-Carve.ensures.made
 
 pub returns-in-Copy-clause-made : goal.returns-in-Copy-clause-made
 returns-in-Copy-clause-made g c =
     edit_makes (g.N.Blocks.seen c.args.store.now) (g.N.Blocks.seen c.rebuild_copy.new.store) c.args.side
     (option_copied c.args.old) c.args.models.now.models c.args.act (Copy c.in-Copy.from c.in-Copy.to)
-    c.rebuild_copy.result c.in-Copy.is refl c.rebuild_copy.ensures.ok c.rebuild_copy.ensures.grows c.rebuild_copy.ensures.full
+    c.rebuild_copy.result c.in-Copy.is refl c.rebuild_copy.ensures.made
 
 pub stencil-stencil-requires-clause-there : goal.stencil-stencil-requires-clause-there
 stencil-stencil-requires-clause-there g c =
@@ -51,8 +51,7 @@ returns-in-Stamp-clause-made g c =
     stamp_makes (g.N.Blocks.seen c.args.store.now) (g.N.Blocks.seen c.rebuild_stamp.new.store)
     c.args.side (option_copied c.args.old) c.args.models.now.models c.args.act c.in-Stamp.m
     c.in-Stamp.at c.stencil-stencil.result.now c.rebuild_stamp.result c.in-Stamp.is
-    c.stencil-stencil.ensures c.rebuild_stamp.ensures.ok c.rebuild_stamp.ensures.grows
-    c.rebuild_stamp.ensures.full
+    c.stencil-stencil.ensures c.rebuild_stamp.ensures.made
 
 pub ink-ink-requires-clause-fits : goal.ink-ink-requires-clause-fits
 ink-ink-requires-clause-fits g c = (
@@ -71,10 +70,13 @@ rebuild_tint-requires-clause-fits g c =
     one_ink_fits c.args.side c.args.models.now.models c.args.act c.in-Tint.t c.in-Tint.is _
     c.requires.may.large c.ink-ink.ensures c.requires.may.fits
 
-pub rebuild_tint-requires-clause-room : goal.rebuild_tint-requires-clause-room
-rebuild_tint-requires-clause-room g c =
-    one_room c.args.side c.args.models.now.models c.args.act c.in-Tint.t c.in-Tint.is _
-    c.requires.may.room
+pub rebuild_tint-requires-clause-may : goal.rebuild_tint-requires-clause-may
+rebuild_tint-requires-clause-may g c = record {
+  side_is = c.requires.may.side_is;
+  root_is = c.requires.may.root_is;
+  room = one_room c.args.side c.args.models.now.models c.args.act c.in-Tint.t c.in-Tint.is _
+      c.requires.may.room;
+}
 
 pub returns-in-Tint-clause-made : goal.returns-in-Tint-clause-made
 returns-in-Tint-clause-made g c =
@@ -86,4 +88,4 @@ returns-in-Tint-clause-made g c =
     (tints_make (g.N.Blocks.seen c.args.store.now) (g.N.Blocks.seen c.rebuild_tint.new.store)
     c.args.side (option_copied c.args.old) c.args.models.now.models c.in-Tint.t
     (option_copied c.ink-ink.result) large c.ink-ink.ensures c.rebuild_tint.result
-    c.rebuild_tint.ensures.made c.rebuild_tint.ensures.full)
+    c.rebuild_tint.ensures.made)

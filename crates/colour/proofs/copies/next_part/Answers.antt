@@ -1,32 +1,25 @@
 use Rattle.std.proofs.Common.{arith}
 use Rattle.colour.specs.Made.{copy_parts}
-use Rattle.colour.proofs.MadeLaws.{lent_back, lent_made, lent_fails}
+use Rattle.colour.proofs.MadeLaws.{lent_back, lent_made}
 use Rattle.colour.proofs.copies.next_part.Goals as goal
 
 pub back_if-requires-clause-held : goal.back_if-requires-clause-held
 back_if-requires-clause-held g c =
     (lent_back _ _ c.args.side _ c.args.now (copy_parts c.args.side c.args.b c.args.to c.args.plane)
-    c.copy_part-next.result c.as_ref.ensures.value c.requires.now c.copy_part-next.ensures.ok c.copy_part-next.ensures.full).0
+    c.copy_part-next.result c.as_ref.ensures.value c.requires.may.root_is c.copy_part-next.ensures.made).0
 
 pub back_if-requires-clause-room : goal.back_if-requires-clause-room
 back_if-requires-clause-room g c =
     let n =
     (lent_back _ _ c.args.side _ c.args.now
     (copy_parts c.args.side c.args.b c.args.to c.args.plane)
-    c.copy_part-next.result c.as_ref.ensures.value c.requires.now c.copy_part-next.ensures.ok c.copy_part-next.ensures.full).1 in
-    let room = c.requires.room in
+    c.copy_part-next.result c.as_ref.ensures.value c.requires.may.root_is c.copy_part-next.ensures.made).1 in
+    let room = c.requires.may.room in
     omega (arith, n, room)
 
 pub returns-clause-made : goal.returns-clause-made
 returns-clause-made g c first root so_far =
     lent_made first _ _ _ c.args.side c.args.plane root _ c.args.now
     (copy_parts c.args.side c.args.b c.args.to)
-    c.copy_part-next.result c.as_ref.ensures.value so_far c.copy_part-next.ensures.ok c.copy_part-next.ensures.grows
-    c.back_if.ensures.gone c.back_if.ensures.only
-
-pub returns-clause-full : goal.returns-clause-full
-returns-clause-full g c first root so_far =
-    lent_fails first _ _ _ c.args.side c.args.plane root _ c.args.now
-    (copy_parts c.args.side c.args.b c.args.to)
-    c.copy_part-next.result c.as_ref.ensures.value so_far c.copy_part-next.ensures.full
+    c.copy_part-next.result c.as_ref.ensures.value so_far c.copy_part-next.ensures.made
     c.back_if.ensures.gone c.back_if.ensures.only

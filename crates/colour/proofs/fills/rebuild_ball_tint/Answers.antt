@@ -15,17 +15,7 @@ pub rebuild_planes-requires-clause-planes : goal.rebuild_planes-requires-clause-
 rebuild_planes-requires-clause-planes g c =
     (fill_edit (is_in_ball c.args.ball) c.args.tint, ball_planes _ c.args.side _ (omega arith))
 
-pub returns-clause-ok : goal.returns-clause-ok
-returns-clause-ok g c =
-    c.rebuild_planes.ensures.ok (fill_edit (is_in_ball c.args.ball) c.args.tint)
-    (ball_planes _ c.args.side _ (omega arith))
-
-pub returns-clause-grows : goal.returns-clause-grows
-returns-clause-grows g c =
-    c.rebuild_planes.ensures.grows (fill_edit (is_in_ball c.args.ball) c.args.tint)
-    (ball_planes _ c.args.side _ (omega arith))
-
-pub returns-clause-full : goal.returns-clause-full
-returns-clause-full g c =
-    c.rebuild_planes.ensures.full (fill_edit (is_in_ball c.args.ball) c.args.tint)
+pub returns-clause-made : goal.returns-clause-made
+returns-clause-made g c =
+    c.rebuild_planes.ensures.made (fill_edit (is_in_ball c.args.ball) c.args.tint)
     (ball_planes _ c.args.side _ (omega arith))

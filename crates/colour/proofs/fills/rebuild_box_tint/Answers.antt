@@ -29,32 +29,12 @@ rebuild_planes-requires-2-clause-planes g c = (
       (record { b = c.args.b; tint = c.args.tint }) (omega arith),
 )
 
-pub returns-then-may_repeat-clause-ok : goal.returns-then-may_repeat-clause-ok
-returns-then-may_repeat-clause-ok g c =
-    c.rebuild_planes.ensures.ok (fill_edit (is_in_box c.args.b) c.args.tint)
+pub returns-then-may_repeat-clause-made : goal.returns-then-may_repeat-clause-made
+returns-then-may_repeat-clause-made g c =
+    c.rebuild_planes.ensures.made (fill_edit (is_in_box c.args.b) c.args.tint)
     (box_planes _ c.args.side (record { b = c.args.b; tint = c.args.tint }) (omega arith))
 
-pub returns-then-may_repeat-clause-grows : goal.returns-then-may_repeat-clause-grows
-returns-then-may_repeat-clause-grows g c =
-    c.rebuild_planes.ensures.grows (fill_edit (is_in_box c.args.b) c.args.tint)
-    (box_planes _ c.args.side (record { b = c.args.b; tint = c.args.tint }) (omega arith))
-
-pub returns-then-may_repeat-clause-full : goal.returns-then-may_repeat-clause-full
-returns-then-may_repeat-clause-full g c =
-    c.rebuild_planes.ensures.full (fill_edit (is_in_box c.args.b) c.args.tint)
-    (box_planes _ c.args.side (record { b = c.args.b; tint = c.args.tint }) (omega arith))
-
-pub returns-clause-ok : goal.returns-clause-ok
-returns-clause-ok g c =
-    c.rebuild_planes-2.ensures.ok (fill_edit (is_in_box c.args.b) c.args.tint)
-    (box_planes _ c.args.side (record { b = c.args.b; tint = c.args.tint }) (omega arith))
-
-pub returns-clause-grows : goal.returns-clause-grows
-returns-clause-grows g c =
-    c.rebuild_planes-2.ensures.grows (fill_edit (is_in_box c.args.b) c.args.tint)
-    (box_planes _ c.args.side (record { b = c.args.b; tint = c.args.tint }) (omega arith))
-
-pub returns-clause-full : goal.returns-clause-full
-returns-clause-full g c =
-    c.rebuild_planes-2.ensures.full (fill_edit (is_in_box c.args.b) c.args.tint)
+pub returns-clause-made : goal.returns-clause-made
+returns-clause-made g c =
+    c.rebuild_planes-2.ensures.made (fill_edit (is_in_box c.args.b) c.args.tint)
     (box_planes _ c.args.side (record { b = c.args.b; tint = c.args.tint }) (omega arith))

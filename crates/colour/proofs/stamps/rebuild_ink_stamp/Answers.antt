@@ -28,38 +28,14 @@ rebuild_planes-requires-2-clause-planes g c =
       ink_planes _ c.args.side _ (omega arith) level (omega arith, omega arith, omega arith),
     )
 
-pub returns-then-is_small-clause-ok : goal.returns-then-is_small-clause-ok
-returns-then-is_small-clause-ok g c =
+pub returns-then-is_small-clause-made : goal.returns-then-is_small-clause-made
+returns-then-is_small-clause-made g c =
     let level : c.root_level-root.result - 2 ≡ c.args.side - 2 - 2 = omega arith in
-    c.rebuild_planes.ensures.ok (ink_edit (ink_at c.args.stencil.now c.args.at))
+    c.rebuild_planes.ensures.made (ink_edit (ink_at c.args.stencil.now c.args.at))
     (ink_planes _ c.args.side _ (omega arith) level (omega arith, omega arith, omega arith))
 
-pub returns-then-is_small-clause-grows : goal.returns-then-is_small-clause-grows
-returns-then-is_small-clause-grows g c =
+pub returns-clause-made : goal.returns-clause-made
+returns-clause-made g c =
     let level : c.root_level-root.result - 2 ≡ c.args.side - 2 - 2 = omega arith in
-    c.rebuild_planes.ensures.grows (ink_edit (ink_at c.args.stencil.now c.args.at))
-    (ink_planes _ c.args.side _ (omega arith) level (omega arith, omega arith, omega arith))
-
-pub returns-then-is_small-clause-full : goal.returns-then-is_small-clause-full
-returns-then-is_small-clause-full g c =
-    let level : c.root_level-root.result - 2 ≡ c.args.side - 2 - 2 = omega arith in
-    c.rebuild_planes.ensures.full (ink_edit (ink_at c.args.stencil.now c.args.at))
-    (ink_planes _ c.args.side _ (omega arith) level (omega arith, omega arith, omega arith))
-
-pub returns-clause-ok : goal.returns-clause-ok
-returns-clause-ok g c =
-    let level : c.root_level-root.result - 2 ≡ c.args.side - 2 - 2 = omega arith in
-    c.rebuild_planes-2.ensures.ok (ink_edit (ink_at c.args.stencil.now c.args.at))
-    (ink_planes _ c.args.side _ (omega arith) level (omega arith, omega arith, omega arith))
-
-pub returns-clause-grows : goal.returns-clause-grows
-returns-clause-grows g c =
-    let level : c.root_level-root.result - 2 ≡ c.args.side - 2 - 2 = omega arith in
-    c.rebuild_planes-2.ensures.grows (ink_edit (ink_at c.args.stencil.now c.args.at))
-    (ink_planes _ c.args.side _ (omega arith) level (omega arith, omega arith, omega arith))
-
-pub returns-clause-full : goal.returns-clause-full
-returns-clause-full g c =
-    let level : c.root_level-root.result - 2 ≡ c.args.side - 2 - 2 = omega arith in
-    c.rebuild_planes-2.ensures.full (ink_edit (ink_at c.args.stencil.now c.args.at))
+    c.rebuild_planes-2.ensures.made (ink_edit (ink_at c.args.stencil.now c.args.at))
     (ink_planes _ c.args.side _ (omega arith) level (omega arith, omega arith, omega arith))

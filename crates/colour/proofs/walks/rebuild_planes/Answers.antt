@@ -7,22 +7,10 @@ pub rebuild_world-requires-clause-task : goal.rebuild_world-requires-clause-task
 rebuild_world-requires-clause-task g c =
     let (edit, made) = c.requires.planes in
     walk_begins g.P.Planes.task_of g.T.Task.makes c.args.planes c.args.side _ _ _ _ c.name_of.ensures c.requires.large (omega arith)
-    c.held-held.ensures.trees c.held-held.ensures.canonical edit made c.requires.old
+    c.held-held.ensures.trees c.held-held.ensures.canonical edit made c.requires.may.root_is
 
-pub returns-in-Ok-clause-ok : goal.returns-in-Ok-clause-ok
-returns-in-Ok-clause-ok g c edit made before w =
-    c.in-Ok.ensures.ok (all_planes c.args.side edit before)
-    (walk_makes g.P.Planes.task_of g.T.Task.makes c.args.planes c.args.side _ _ _ _ c.name_of.ensures c.requires.large (omega arith)
-    c.held-held.ensures.trees c.held-held.ensures.canonical edit made before w)
-
-pub returns-in-Ok-clause-grows : goal.returns-in-Ok-clause-grows
-returns-in-Ok-clause-grows g c edit made before w =
-    c.in-Ok.ensures.grows (all_planes c.args.side edit before)
-    (walk_makes g.P.Planes.task_of g.T.Task.makes c.args.planes c.args.side _ _ _ _ c.name_of.ensures c.requires.large (omega arith)
-    c.held-held.ensures.trees c.held-held.ensures.canonical edit made before w)
-
-pub returns-in-Err-clause-full : goal.returns-in-Err-clause-full
-returns-in-Err-clause-full g c edit made before w =
-    c.in-Err.ensures.full (all_planes c.args.side edit before)
+pub returns-clause-made : goal.returns-clause-made
+returns-clause-made g c edit made before w =
+    c.rebuild_world.ensures.made (all_planes c.args.side edit before)
     (walk_makes g.P.Planes.task_of g.T.Task.makes c.args.planes c.args.side _ _ _ _ c.name_of.ensures c.requires.large (omega arith)
     c.held-held.ensures.trees c.held-held.ensures.canonical edit made before w)

@@ -9,39 +9,19 @@ use Rattle.edit_copy.proofs.rebuild.rebuild_copy_with.Goals as goal
 
 pub rebuild_world-requires-clause-task : goal.rebuild_world-requires-clause-task
 rebuild_world-requires-clause-task g c =
-    let (before, w) = root_shown _ c.args.side _ c.requires.old in
+    let (before, w) = root_shown _ c.args.side _ c.requires.may.root_is in
     let held = (g.N.Blocks.seen c.args.store.now).held in
     let v =
     subst (λ (o : Option Name). ShowsWorld held (c.args.side - 2) o before)
     (sym c.name_of.ensures) w in
     (edited [] (Copy c.args.from c.args.to) before, copy_world c.args.side _ held _ c.args.from c.args.to _ before (omega arith) (omega arith) c.held-held.ensures.trees c.held-held.ensures.canonical c.requires.from c.requires.to c.whole_task-task.ensures v)
 
-pub returns-in-Ok-clause-ok : goal.returns-in-Ok-clause-ok
-returns-in-Ok-clause-ok g c before w =
+pub returns-clause-made : goal.returns-clause-made
+returns-clause-made g c before w =
     let held = (g.N.Blocks.seen c.args.store.now).held in
     let v =
     subst (λ (o : Option Name). ShowsWorld held (c.args.side - 2) o before)
     (sym c.name_of.ensures) w in
-    c.in-Ok.ensures.ok (edited [] (Copy c.args.from c.args.to) before)
-    (copy_world c.args.side _ held _ c.args.from c.args.to _ before (omega arith)
-    (omega arith) c.held-held.ensures.trees c.held-held.ensures.canonical c.requires.from c.requires.to c.whole_task-task.ensures v)
-
-pub returns-in-Ok-clause-grows : goal.returns-in-Ok-clause-grows
-returns-in-Ok-clause-grows g c before w =
-    let held = (g.N.Blocks.seen c.args.store.now).held in
-    let v =
-    subst (λ (o : Option Name). ShowsWorld held (c.args.side - 2) o before)
-    (sym c.name_of.ensures) w in
-    c.in-Ok.ensures.grows (edited [] (Copy c.args.from c.args.to) before)
-    (copy_world c.args.side _ held _ c.args.from c.args.to _ before (omega arith)
-    (omega arith) c.held-held.ensures.trees c.held-held.ensures.canonical c.requires.from c.requires.to c.whole_task-task.ensures v)
-
-pub returns-in-Err-clause-full : goal.returns-in-Err-clause-full
-returns-in-Err-clause-full g c before w =
-    let held = (g.N.Blocks.seen c.args.store.now).held in
-    let v =
-    subst (λ (o : Option Name). ShowsWorld held (c.args.side - 2) o before)
-    (sym c.name_of.ensures) w in
-    c.in-Err.ensures.full (edited [] (Copy c.args.from c.args.to) before)
+    c.rebuild_world.ensures.made (edited [] (Copy c.args.from c.args.to) before)
     (copy_world c.args.side _ held _ c.args.from c.args.to _ before (omega arith)
     (omega arith) c.held-held.ensures.trees c.held-held.ensures.canonical c.requires.from c.requires.to c.whole_task-task.ensures v)

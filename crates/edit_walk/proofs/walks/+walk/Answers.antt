@@ -17,19 +17,15 @@ use Rattle.edit_walk.proofs.MemoLaws.{came_built, joined_built, hit_built, recal
 use Rattle.node_words.proofs.GatherLaws.{tree_of-more}
 use Rattle.edit_walk.proofs.walks.+walk.Goals as goal
 
-pub build-returns-in-Ok-clause-ok : goal.build-returns-in-Ok-clause-ok
-build-returns-in-Ok-clause-ok g t c base rest cells b =
-    came_built _ base rest _ _ _ _ b.recalls
-    (c.in-Ok.ensures.ok base rest cells b.starts
-    (c.whole-whole.ensures.whole base cells b.made))
+pub build-returns-in-Ok-clause-walked : goal.build-returns-in-Ok-clause-walked
+build-returns-in-Ok-clause-walked g t c base rest cells b =
+    let came = c.in-Ok.ensures.came base rest cells b.starts
+    (c.whole-whole.ensures.whole base cells b.made) in
+    record { built = came_built _ base rest _ _ _ _ b.recalls came.came; grows = came.grows }
 
-pub build-returns-in-Ok-clause-grows : goal.build-returns-in-Ok-clause-grows
-build-returns-in-Ok-clause-grows g t c base rest cells b =
-    c.in-Ok.ensures.grows base rest cells b.starts (c.whole-whole.ensures.whole base cells b.made)
-
-pub build-returns-in-Err-clause-full : goal.build-returns-in-Err-clause-full
-build-returns-in-Err-clause-full g t c base rest cells b =
-    c.in-Err.ensures.full base rest cells b.starts (c.whole-whole.ensures.whole base cells b.made)
+pub build-returns-in-Err-clause-walked : goal.build-returns-in-Err-clause-walked
+build-returns-in-Err-clause-walked g t c base rest cells b =
+    c.in-Err.ensures.came base rest cells b.starts (c.whole-whole.ensures.whole base cells b.made)
 
 pub build-again-requires-clause-reached : goal.build-again-requires-clause-reached
 build-again-requires-clause-reached g t c =
@@ -41,73 +37,66 @@ build-again-requires-clause-reached g t c =
           (aside_keeps _ rest _ b.starts.aside) d.of,
     )
 
-pub build-returns-in-Some-clause-ok : goal.build-returns-in-Some-clause-ok
-build-returns-in-Some-clause-ok g t c base rest cells b =
+pub build-returns-in-Some-clause-walked : goal.build-returns-in-Some-clause-walked
+build-returns-in-Some-clause-walked g t c base rest cells b =
     let d = b.recalls.each c.args.level c.in-Some.kept c.in-Some.ensures.kept in
-    hit_built _ base rest c.args.level cells c.in-Some.kept _ _ b.recalls d
-    (c.in-Some.ensures.same base c.args.level cells d.cells b.made d.made)
-    (c.again.ensures.came rest _ c.args.level d.tree b.starts.aside d.of)
+    record {
+      built = hit_built _ base rest c.args.level cells c.in-Some.kept _ _ b.recalls d
+          (c.in-Some.ensures.same base c.args.level cells d.cells b.made d.made)
+          (c.again.ensures.came rest _ c.args.level d.tree b.starts.aside d.of);
+      grows = grows_held _ _ _ _ (grows_none _ _) c.again.ensures.only;
+    }
 
-pub build-returns-in-Some-clause-grows : goal.build-returns-in-Some-clause-grows
-build-returns-in-Some-clause-grows g t c base rest cells b =
-    grows_held _ _ _ _ (grows_none _ _) c.again.ensures.only
+pub fresh-returns-in-Ok-clause-walked : goal.fresh-returns-in-Ok-clause-walked
+fresh-returns-in-Ok-clause-walked g t c base rest cells b =
+    let walked = c.in-Ok.ensures.walked base rest cells b in
+    record {
+      built = recalls_came _ _ base rest c.args.level c.args.task.now cells c.named-name.result
+          c.in-Ok.share _ _ _ _ c.keep.ensures c.named-name.ensures b.made walked.built;
+      grows = walked.grows;
+    }
 
-pub build-returns-in-Err-clause-rest : goal.build-returns-in-Err-clause-rest
-build-returns-in-Err-clause-rest g t c base rest cells b =
-    c.in-Err.ensures.rest base rest cells b.starts (c.whole-whole.ensures.whole base cells b.made)
-
-pub fresh-returns-in-Ok-clause-ok : goal.fresh-returns-in-Ok-clause-ok
-fresh-returns-in-Ok-clause-ok g t c base rest cells b =
-    recalls_came _ _ base rest c.args.level c.args.task.now cells c.named-name.result c.in-Ok.share _ _ _ _ c.keep.ensures c.named-name.ensures b.made (c.in-Ok.ensures.ok base rest cells b)
-
-pub made-returns-in-Ok-clause-ok : goal.made-returns-in-Ok-clause-ok
-made-returns-in-Ok-clause-ok g t c base rest cells b =
+pub made-returns-in-Ok-clause-walked : goal.made-returns-in-Ok-clause-walked
+made-returns-in-Ok-clause-walked g t c base rest cells b =
     let e = c.if-level-eq0.true in
     let z = subst (λ (l : ℕ). g.T.Task.makes c.args.task.now base l cells) e b.made in
     let small : c.bits-bits.result < 2 ^ 64 = omega arith in
     let same = c.bits-bits.ensures.bits base cells (starts_held base rest _ _ b.starts) z in
-    came_built _ base rest _ _ _ _ b.recalls
-    (leaf_done c.args.level c.bits-bits.result cells rest _ _ _ e
-    (leaf_target c.args.level c.bits-bits.result cells e small same)
-    (c.in-Ok.ensures.ok rest _
-    (subst (λ (v : Seen). Aside v.held c.args.full.now rest)
-    (sym c.bits-bits.ensures.seen) b.starts.aside)))
+    let target = leaf_target c.args.level c.bits-bits.result cells e small same in
+    record {
+      built = came_built _ base rest _ _ _ _ b.recalls
+          (leaf_done c.args.level c.bits-bits.result cells rest _ _ _ e target
+          (c.in-Ok.ensures.made.came rest _
+          (subst (λ (v : Seen). Aside v.held c.args.full.now rest)
+          (sym c.bits-bits.ensures.seen) b.starts.aside)));
+      grows = target_grows _ _ _ _ _ target c.bits-bits.ensures.seen c.in-Ok.ensures.made.grows;
+    }
 
-pub made-returns-in-Ok-clause-grows : goal.made-returns-in-Ok-clause-grows
-made-returns-in-Ok-clause-grows g t c base rest cells b =
+pub made-returns-in-Err-clause-walked : goal.made-returns-in-Err-clause-walked
+made-returns-in-Err-clause-walked g t c base rest cells b =
     let e = c.if-level-eq0.true in
     let z = subst (λ (l : ℕ). g.T.Task.makes c.args.task.now base l cells) e b.made in
     let small : c.bits-bits.result < 2 ^ 64 = omega arith in
     let same = c.bits-bits.ensures.bits base cells (starts_held base rest _ _ b.starts) z in
-    target_grows _ _ _ _ _
-    (leaf_target c.args.level c.bits-bits.result cells e small same) c.bits-bits.ensures.seen c.in-Ok.ensures.grows
-
-pub made-returns-in-Err-clause-full : goal.made-returns-in-Err-clause-full
-made-returns-in-Err-clause-full g t c base rest cells b =
-    let e = c.if-level-eq0.true in
-    let z = subst (λ (l : ℕ). g.T.Task.makes c.args.task.now base l cells) e b.made in
-    let small : c.bits-bits.result < 2 ^ 64 = omega arith in
-    let same = c.bits-bits.ensures.bits base cells (starts_held base rest _ _ b.starts) z in
-    target_refuses _ _ _ _ _ _ _ refl c.bits-bits.ensures.seen
-    (meets_refuses _ _ _ _ _ _
-    (leaf_target c.args.level c.bits-bits.result cells e small same) c.in-Err.ensures.full)
-
-pub made-returns-in-Err-clause-rest : goal.made-returns-in-Err-clause-rest
-made-returns-in-Err-clause-rest g t c base rest cells b =
-    aside_same _ _ _ rest
-    (c.in-Err.ensures.full.held
-    ∙ ap (λ (v : Seen). v.held) c.bits-bits.ensures.seen) b.starts.aside
+    let target = leaf_target c.args.level c.bits-bits.result cells e small same in
+    record {
+      refuses = target_refuses _ _ _ _ _ _ _ refl c.bits-bits.ensures.seen
+          (meets_refuses _ _ _ _ _ _ target c.in-Err.ensures.made);
+      aside = aside_same _ _ _ rest
+          (c.in-Err.ensures.made.held
+          ∙ ap (λ (v : Seen). v.held) c.bits-bits.ensures.seen) b.starts.aside;
+    }
 
 pub made-join-requires-clause-level : goal.made-join-requires-clause-level
 made-join-requires-clause-level g t c =
     let (base, rest, cells, b) = c.requires.task in
-    let x = ap (λ (p : Layout). p.side) (c.in-Ok-gather.ensures.grows base rest cells b).plan in
+    let x = ap (λ (p : Layout). p.side) (c.in-Ok-gather.ensures.walked base rest cells b).grows.plan in
     (omega arith, omega (arith, x, c.requires.level.1))
 
 pub made-join-requires-clause-octants : goal.made-join-requires-clause-octants
 made-join-requires-clause-octants g t c =
     let (base, rest, cells, b) = c.requires.task in
-    (rest, c.gather.new.full, shape_with c.args.level cells, shape_with-canonical c.args.level cells, (c.in-Ok-gather.ensures.ok base rest cells b).gathers)
+    (rest, c.gather.new.full, shape_with c.args.level cells, shape_with-canonical c.args.level cells, (c.in-Ok-gather.ensures.walked base rest cells b).partway.gathers)
 
 pub made-join-requires-clause-room : goal.made-join-requires-clause-room
 made-join-requires-clause-room g t c =
@@ -116,39 +105,43 @@ made-join-requires-clause-room g t c =
     omega (
       arith,
       gathers_number rest _ _ _ _ _ 8
-          (c.in-Ok-gather.ensures.ok base rest cells b).gathers,
+          (c.in-Ok-gather.ensures.walked base rest cells b).partway.gathers,
       (aside_numbers _ rest _ b.starts.aside).least,
       c.requires.room,
     )
 
-pub made-returns-in-Ok-join-clause-ok : goal.made-returns-in-Ok-join-clause-ok
-made-returns-in-Ok-join-clause-ok g t c base rest cells b =
-    let p = c.in-Ok-gather.ensures.ok base rest cells b in
-    joined_built _ base rest _ _ _ _ _ p.recalls
-    (c.in-Ok-join.ensures.ok rest _ _ (shape_with-canonical c.args.level cells) p.gathers)
+pub made-returns-in-Ok-join-clause-walked : goal.made-returns-in-Ok-join-clause-walked
+made-returns-in-Ok-join-clause-walked g t c base rest cells b =
+    let all = c.in-Ok-gather.ensures.walked base rest cells b in
+    let to = c.in-Ok-join.ensures.joined rest _ _ (shape_with-canonical c.args.level cells)
+    all.partway.gathers in
+    record {
+      built = joined_built _ base rest _ _ _ _ _ all.partway.recalls to.joined;
+      grows = grows_on _ _ _ _ all.grows to.grows;
+    }
 
-pub made-returns-in-Ok-join-clause-grows : goal.made-returns-in-Ok-join-clause-grows
-made-returns-in-Ok-join-clause-grows g t c base rest cells b =
-    grows_on _ _ _ _ (c.in-Ok-gather.ensures.grows base rest cells b)
-    (c.in-Ok-join.ensures.grows rest _ _ (shape_with-canonical c.args.level cells)
-    (c.in-Ok-gather.ensures.ok base rest cells b).gathers)
+pub made-returns-in-Err-join-clause-walked : goal.made-returns-in-Err-join-clause-walked
+made-returns-in-Err-join-clause-walked g t c base rest cells b =
+    let all = c.in-Ok-gather.ensures.walked base rest cells b in
+    let stops = c.in-Err-join.ensures.joined rest _ _ (shape_with-canonical c.args.level cells)
+    all.partway.gathers in
+    record {
+      refuses = refuses_after _ _ _ _ _ _ all.grows stops.refuses;
+      aside = stops.aside;
+    }
 
-pub made-returns-in-Err-join-clause-full : goal.made-returns-in-Err-join-clause-full
-made-returns-in-Err-join-clause-full g t c base rest cells b =
-    let r =
-    c.in-Err-join.ensures.full rest _ _ (shape_with-canonical c.args.level cells)
-    (c.in-Ok-gather.ensures.ok base rest cells b).gathers in
-    refuses_after _ _ _ _ _ _ (c.in-Ok-gather.ensures.grows base rest cells b) r
-
-pub made-returns-in-Err-join-clause-rest : goal.made-returns-in-Err-join-clause-rest
-made-returns-in-Err-join-clause-rest g t c base rest cells b =
-    c.in-Err-join.ensures.back rest _ _ (shape_with-canonical c.args.level cells)
-    (c.in-Ok-gather.ensures.ok base rest cells b).gathers
-
-pub made-returns-in-Ok-join-clause-turns : goal.made-returns-in-Ok-join-clause-turns
-made-returns-in-Ok-join-clause-turns g t c =
+pub made-returns-in-Ok-join-clause-took : goal.made-returns-in-Ok-join-clause-took
+made-returns-in-Ok-join-clause-took g t c =
     let one : 1 ≤ c.args.level = omega arith in
-    omega (arith, c.in-Ok-gather.ensures.turns, c.in-Ok-join.ensures.turns, c.requires.mixed one)
+    record {
+      turns = omega (
+        arith,
+        c.in-Ok-gather.ensures.took.turns,
+        c.in-Ok-join.ensures.turns,
+        c.requires.mixed one,
+      );
+      height_is = omega (arith, c.in-Ok-gather.ensures.took.height_is);
+    }
 
 pub gather-loop-k-init : goal.gather-loop-k-init
 gather-loop-k-init g t c = record {
@@ -218,7 +211,7 @@ pub gather-back_all-requires-clause-held : goal.gather-back_all-requires-clause-
 gather-back_all-requires-clause-held g t c =
     let (base, rest, cells, b) = c.requires.task in
     let p = c.loop-k.invariant.partway base rest cells b in
-    let a = met_gathers rest _ _ _ _ _ _ _ _ p.gathers (c.in-Err.ensures.rest base rest cells p) in
+    let a = met_gathers rest _ _ _ _ _ _ _ _ p.gathers (c.in-Err.ensures.walked base rest cells p).aside in
     record {
       row = a.gathered.row;
       are_held = rw c.taken.ensures.row
@@ -229,7 +222,7 @@ pub gather-back_all-requires-clause-room : goal.gather-back_all-requires-clause-
 gather-back_all-requires-clause-room g t c =
     let (base, rest, cells, b) = c.requires.task in
     let p = c.loop-k.invariant.partway base rest cells b in
-    let a = met_gathers rest _ _ _ _ _ _ _ _ p.gathers (c.in-Err.ensures.rest base rest cells p) in
+    let a = met_gathers rest _ _ _ _ _ _ _ _ p.gathers (c.in-Err.ensures.walked base rest cells p).aside in
     omega (
       arith,
       gathers_number rest _ _ _ _ _ _ a,
@@ -238,21 +231,19 @@ gather-back_all-requires-clause-room g t c =
       c.requires.level.0,
     )
 
-pub gather-returns-in-Err-clause-full : goal.gather-returns-in-Err-clause-full
-gather-returns-in-Err-clause-full g t c base rest cells b =
+pub gather-returns-in-Err-clause-walked : goal.gather-returns-in-Err-clause-walked
+gather-returns-in-Err-clause-walked g t c base rest cells b =
     let p = c.loop-k.invariant.partway base rest cells b in
-    let q = c.in-Err.ensures.full base rest cells p in
-    refuses_held _ _ _ _ _ _
-    (refuses_after _ _ _ _ _ _ (c.loop-k.invariant.grows base rest cells b)
-    (refuses_octant _ c.loop-k.k _ _ _ _ q)) c.back_all.ensures.only
-
-pub gather-returns-in-Err-clause-rest : goal.gather-returns-in-Err-clause-rest
-gather-returns-in-Err-clause-rest g t c base rest cells b =
-    let p = c.loop-k.invariant.partway base rest cells b in
-    let a = met_gathers rest _ _ _ _ _ _ _ _ p.gathers (c.in-Err.ensures.rest base rest cells p) in
-    back_aside rest _ _ _ _ _ _ _ _ a (λ f. refl)
-    (c.back_all.ensures.gone p.gathers.gathered.row
-    (rw c.taken.ensures.row (gathers_held rest _ _ _ _ _ _ _ a (keeps_itself _))))
+    let stops = c.in-Err.ensures.walked base rest cells p in
+    let a = met_gathers rest _ _ _ _ _ _ _ _ p.gathers stops.aside in
+    record {
+      refuses = refuses_held _ _ _ _ _ _
+          (refuses_after _ _ _ _ _ _ (c.loop-k.invariant.grows base rest cells b)
+          (refuses_octant _ c.loop-k.k _ _ _ _ stops.refuses)) c.back_all.ensures.only;
+      aside = back_aside rest _ _ _ _ _ _ _ _ a (λ f. refl)
+          (c.back_all.ensures.gone p.gathers.gathered.row
+          (rw c.taken.ensures.row (gathers_held rest _ _ _ _ _ _ _ a (keeps_itself _))));
+    }
 
 pub gather-loop-k-preserved : goal.gather-loop-k-preserved
 gather-loop-k-preserved g t c =
@@ -260,17 +251,17 @@ gather-loop-k-preserved g t c =
     let e : sum_below (c.loop-k.k + 1) f ≡ sum_below c.loop-k.k f + f c.loop-k.k =
     rw add-one (sum_below-suc c.loop-k.k f) in
     record {
-      turns = omega (arith, e, c.loop-k.invariant.turns, c.in-Ok.ensures.turns);
-      height_is = omega (arith, c.loop-k.invariant.height_is, c.in-Ok.ensures.height);
+      turns = omega (arith, e, c.loop-k.invariant.turns, c.in-Ok.ensures.took.turns);
+      height_is = omega (arith, c.loop-k.invariant.height_is, c.in-Ok.ensures.took.height_is);
       partway = λ base rest cells b.
           let p = c.loop-k.invariant.partway base rest cells b in
           partway_one _ base rest _ _ cells _ _ c.loop-k.k c.in-Ok.share _ _
           (omega arith) c.loop-k.invariant.long p
-          (c.in-Ok.ensures.ok base rest cells p) c.put.ensures;
+          (c.in-Ok.ensures.walked base rest cells p).built c.put.ensures;
       grows = λ base rest cells b.
           let p = c.loop-k.invariant.partway base rest cells b in
           grows_on _ _ _ _ (c.loop-k.invariant.grows base rest cells b)
-          (grows_in _ c.loop-k.k _ _ (c.in-Ok.ensures.grows base rest cells p));
+          (grows_in _ c.loop-k.k _ _ (c.in-Ok.ensures.walked base rest cells p).grows);
       long = c.put.auto.children ∙ c.loop-k.invariant.long;
       rests = g.met.N.Blocks.rests_on _ _ _ c.loop-k.invariant.rests c.octant.ensures.rests;
     }
@@ -307,28 +298,20 @@ octant-build-requires g t c κs within =
       ),
     )
 
-pub octant-returns-in-Ok-clause-ok : goal.octant-returns-in-Ok-clause-ok
-octant-returns-in-Ok-clause-ok g t c base rest cells p =
+pub octant-returns-in-Ok-clause-walked : goal.octant-returns-in-Ok-clause-walked
+octant-returns-in-Ok-clause-walked g t c base rest cells p =
     let one : 1 ≤ c.args.level = omega arith in
     let part =
     c.octant-part.ensures.task base cells (part_keeps _ base rest _ _ _ _ _ _ p) p.made in
     let at = octant_cells (c.args.level - 1) cells c.args.k in
     let begins =
     part_begins _ base rest c.args.level _ _ cells at _ c.args.k _ _ _ _ c.octant-part.ensures.seen p part in
-    target_built _ base p.gathers.now _ _ _ _ _
-    (sym (octant_target c.args.level cells c.args.k one c.requires.octant))
-    (c.in-Ok.ensures.ok base p.gathers.now at begins)
-
-pub octant-returns-in-Ok-clause-grows : goal.octant-returns-in-Ok-clause-grows
-octant-returns-in-Ok-clause-grows g t c base rest cells p =
-    let one : 1 ≤ c.args.level = omega arith in
-    let part =
-    c.octant-part.ensures.task base cells (part_keeps _ base rest _ _ _ _ _ _ p) p.made in
-    let at = octant_cells (c.args.level - 1) cells c.args.k in
-    let begins =
-    part_begins _ base rest c.args.level _ _ cells at _ c.args.k _ _ _ _ c.octant-part.ensures.seen p part in
-    target_grows _ _ _ _ _
-    (sym (octant_target c.args.level cells c.args.k one c.requires.octant)) c.octant-part.ensures.seen (c.in-Ok.ensures.grows base p.gathers.now at begins)
+    let target = sym (octant_target c.args.level cells c.args.k one c.requires.octant) in
+    let walked = c.in-Ok.ensures.walked base p.gathers.now at begins in
+    record {
+      built = target_built _ base p.gathers.now _ _ _ _ _ target walked.built;
+      grows = target_grows _ _ _ _ _ target c.octant-part.ensures.seen walked.grows;
+    }
 
 pub octant-returns-in-Ok-clause-rests : goal.octant-returns-in-Ok-clause-rests
 octant-returns-in-Ok-clause-rests g t c =
@@ -338,28 +321,26 @@ pub octant-returns-in-Err-clause-rests : goal.octant-returns-in-Err-clause-rests
 octant-returns-in-Err-clause-rests g t c =
     g.met.N.Blocks.rests_on _ _ _ c.octant-part.ensures.rests c.in-Err.ensures.rests
 
-pub octant-returns-in-Err-clause-full : goal.octant-returns-in-Err-clause-full
-octant-returns-in-Err-clause-full g t c base rest cells p =
+pub octant-returns-in-Err-clause-walked : goal.octant-returns-in-Err-clause-walked
+octant-returns-in-Err-clause-walked g t c base rest cells p =
     let one : 1 ≤ c.args.level = omega arith in
     let part =
     c.octant-part.ensures.task base cells (part_keeps _ base rest _ _ _ _ _ _ p) p.made in
     let at = octant_cells (c.args.level - 1) cells c.args.k in
     let begins =
     part_begins _ base rest c.args.level _ _ cells at _ c.args.k _ _ _ _ c.octant-part.ensures.seen p part in
-    target_refuses _ _ _ _ _ _ _
-    (sym (octant_target c.args.level cells c.args.k one c.requires.octant)) c.octant-part.ensures.seen (c.in-Err.ensures.full base p.gathers.now at begins)
+    let target = sym (octant_target c.args.level cells c.args.k one c.requires.octant) in
+    let stops = c.in-Err.ensures.walked base p.gathers.now at begins in
+    record {
+      refuses = target_refuses _ _ _ _ _ _ _ target c.octant-part.ensures.seen stops.refuses;
+      aside = stops.aside;
+    }
 
-pub octant-returns-in-Err-clause-rest : goal.octant-returns-in-Err-clause-rest
-octant-returns-in-Err-clause-rest g t c base rest cells p =
-    let one : 1 ≤ c.args.level = omega arith in
-    let part =
-    c.octant-part.ensures.task base cells (part_keeps _ base rest _ _ _ _ _ _ p) p.made in
-    let at = octant_cells (c.args.level - 1) cells c.args.k in
-    let begins =
-    part_begins _ base rest c.args.level _ _ cells at _ c.args.k _ _ _ _ c.octant-part.ensures.seen p part in
-    c.in-Err.ensures.rest base p.gathers.now at begins
-
-pub gather-returns-clause-ok : goal.gather-returns-clause-ok
-gather-returns-clause-ok g t c base rest cells b =
+pub gather-returns-clause-walked : goal.gather-returns-clause-walked
+gather-returns-clause-walked g t c base rest cells b =
     let e : c.loop-k.k ≡ 8 = omega arith in
-    subst (λ (n : ℕ). Partway g.T.Task.makes base rest c.args.level c.args.task.now cells c.loop-k.children n (walk_at (g.N.Blocks.seen c.loop-k.store) c.loop-k.full (g.M.Memo.has c.loop-k.memo))) e (c.loop-k.invariant.partway base rest cells b)
+    record {
+      partway = subst (λ (n : ℕ). Partway g.T.Task.makes base rest c.args.level c.args.task.now cells c.loop-k.children n (walk_at (g.N.Blocks.seen c.loop-k.store) c.loop-k.full (g.M.Memo.has c.loop-k.memo))) e
+          (c.loop-k.invariant.partway base rest cells b);
+      grows = c.loop-k.invariant.grows base rest cells b;
+    }

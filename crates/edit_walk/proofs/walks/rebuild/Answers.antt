@@ -15,8 +15,8 @@ pub back_if-requires-clause-held : goal.back_if-requires-clause-held
 back_if-requires-clause-held g c =
     let (base, cells, k, m) = c.requires.task in
     let w =
-    (c.in-Ok.ensures.ok _ _ cells
-    (begins_held _ base _ _ _ cells _ g.T.Task.lasts c.held-held.ensures.trees.named k c.requires.memo m)).came in
+    (c.in-Ok.ensures.walked _ _ cells
+    (begins_held _ base _ _ _ cells _ g.T.Task.lasts c.held-held.ensures.trees.named k c.requires.memo m)).built.came in
     (w.aside.tree, w.aside.root, aside_may _ _ _ w.aside)
 
 pub back_if-requires-clause-room : goal.back_if-requires-clause-room
@@ -25,8 +25,8 @@ back_if-requires-clause-room g c =
     omega (
       arith,
       came_number _ _ _ _ _ _
-          (c.in-Ok.ensures.ok _ _ cells
-          (begins_held _ base _ _ _ cells _ g.T.Task.lasts c.held-held.ensures.trees.named k c.requires.memo m)).came,
+          (c.in-Ok.ensures.walked _ _ cells
+          (begins_held _ base _ _ _ cells _ g.T.Task.lasts c.held-held.ensures.trees.named k c.requires.memo m)).built.came,
       c.requires.room,
     )
 
@@ -34,8 +34,8 @@ pub back_if-requires-in-Err-clause-held : goal.back_if-requires-in-Err-clause-he
 back_if-requires-in-Err-clause-held g c =
     let (base, cells, k, m) = c.requires.task in
     let a =
-    (c.in-Err.ensures.rest _ _ cells
-    (begins_held _ base _ _ _ cells _ g.T.Task.lasts c.held-held.ensures.trees.named k c.requires.memo m)) in
+    (c.in-Err.ensures.walked _ _ cells
+    (begins_held _ base _ _ _ cells _ g.T.Task.lasts c.held-held.ensures.trees.named k c.requires.memo m)).aside in
     (a.tree, a.root, aside_may _ _ _ a)
 
 pub back_if-requires-in-Err-clause-room : goal.back_if-requires-in-Err-clause-room
@@ -44,54 +44,50 @@ back_if-requires-in-Err-clause-room g c =
     omega (
       arith,
       (aside_numbers _ _ _
-          (c.in-Err.ensures.rest _ _ cells
-          (begins_held _ base _ _ _ cells _ g.T.Task.lasts c.held-held.ensures.trees.named k c.requires.memo m))).most,
+          (c.in-Err.ensures.walked _ _ cells
+          (begins_held _ base _ _ _ cells _ g.T.Task.lasts c.held-held.ensures.trees.named k c.requires.memo m)).aside).most,
       c.requires.room,
     )
 
-pub returns-in-Ok-clause-ok : goal.returns-in-Ok-clause-ok
-returns-in-Ok-clause-ok g c base cells k m =
-    let w =
-    (c.in-Ok.ensures.ok _ _ cells
-    (begins_held _ base _ _ _ cells _ g.T.Task.lasts c.held-held.ensures.trees.named k c.requires.memo m)).came in
-    rebuilt_comes _ _ _ _ _ _ _ w
-    (c.back_if.ensures.gone w.aside.tree w.aside.root (aside_may _ _ _ w.aside))
+pub returns-in-Ok-clause-made : goal.returns-in-Ok-clause-made
+returns-in-Ok-clause-made g c base cells k m =
+    let begins =
+    begins_held _ base _ _ _ cells _ g.T.Task.lasts c.held-held.ensures.trees.named k c.requires.memo m in
+    let walked = c.in-Ok.ensures.walked _ _ cells begins in
+    let w = walked.built.came in
+    record {
+      came = rebuilt_comes _ _ _ _ _ _ _ w
+          (c.back_if.ensures.gone w.aside.tree w.aside.root (aside_may _ _ _ w.aside));
+      grows = grows_held _ _ _ _ walked.grows c.back_if.ensures.only;
+    }
 
-pub returns-in-Ok-clause-grows : goal.returns-in-Ok-clause-grows
-returns-in-Ok-clause-grows g c base cells k m =
-    grows_held _ _ _ _
-    (c.in-Ok.ensures.grows _ _ cells
-    (begins_held _ base _ _ _ cells _ g.T.Task.lasts c.held-held.ensures.trees.named k c.requires.memo m)) c.back_if.ensures.only
-
-pub returns-in-Err-clause-full : goal.returns-in-Err-clause-full
-returns-in-Err-clause-full g c base cells k m =
-    let r =
-    c.in-Err.ensures.full _ _ cells
-    (begins_held _ base _ _ _ cells _ g.T.Task.lasts c.held-held.ensures.trees.named k c.requires.memo m) in
-    let a =
-    c.in-Err.ensures.rest _ _ cells
-    (begins_held _ base _ _ _ cells _ g.T.Task.lasts c.held-held.ensures.trees.named k c.requires.memo m) in
-    rebuilt_fails _ _ _ _ _ _ _ r c.back_if-in-Err.ensures.only a
+pub returns-in-Err-clause-made : goal.returns-in-Err-clause-made
+returns-in-Err-clause-made g c base cells k m =
+    let begins =
+    begins_held _ base _ _ _ cells _ g.T.Task.lasts c.held-held.ensures.trees.named k c.requires.memo m in
+    let stops = c.in-Err.ensures.walked _ _ cells begins in
+    let a = stops.aside in
+    rebuilt_fails _ _ _ _ _ _ _ stops.refuses c.back_if-in-Err.ensures.only a
     (c.back_if-in-Err.ensures.gone a.tree a.root (aside_may _ _ _ a))
 
 pub returns-in-Ok-clause-turns : goal.returns-in-Ok-clause-turns
 returns-in-Ok-clause-turns g c =
     let (base, cells, k, m) = c.requires.task in
     let w =
-    (c.in-Ok.ensures.ok _ _ cells
-    (begins_held _ base _ _ _ cells _ g.T.Task.lasts c.held-held.ensures.trees.named k c.requires.memo m)).came in
+    (c.in-Ok.ensures.walked _ _ cells
+    (begins_held _ base _ _ _ cells _ g.T.Task.lasts c.held-held.ensures.trees.named k c.requires.memo m)).built.came in
     let b =
     back_turns _ c.build.new.full w.aside.tree _ _ c.back_if.ensures.none
     (λ n e. c.back_if.ensures.turns w.aside.tree n e w.aside.root
     (aside_may _ _ _ w.aside)) w.aside.shape in
-    omega (arith, b, c.in-Ok.ensures.turns, c.in-Ok.ensures.height)
+    omega (arith, b, c.in-Ok.ensures.took.turns, c.in-Ok.ensures.took.height_is)
 
 pub returns-in-Ok-clause-memo : goal.returns-in-Ok-clause-memo
 returns-in-Ok-clause-memo g c =
     let (base, cells, k, m) = c.requires.task in
     let b =
-    c.in-Ok.ensures.ok _ _ cells
-    (begins_held _ base _ _ _ cells _ g.T.Task.lasts c.held-held.ensures.trees.named k c.requires.memo m) in
+    (c.in-Ok.ensures.walked _ _ cells
+    (begins_held _ base _ _ _ cells _ g.T.Task.lasts c.held-held.ensures.trees.named k c.requires.memo m)).built in
     recalls_after _ _ _ _ _ _ _ _ _ b.came
     (c.back_if.ensures.gone b.came.aside.tree b.came.aside.root
     (aside_may _ _ _ b.came.aside)) b.recalls

@@ -33,8 +33,8 @@ returns-in-Ok-clause-reaches g c =
     (c.eight_of-children.ensures.gathers rest n (c.replace-below.ensures.value ∙ e) f) in
     let q =
     next_aside rest _ c.args.level c.in-Ok.share
-    (c.in-Ok.ensures.ok rest None (full_shape c.args.level)
-    (full_canonical c.args.level) x).came in
+    (c.in-Ok.ensures.joined rest None (full_shape c.args.level)
+    (full_canonical c.args.level) x).joined.came in
     (q.name, c.set_aside.ensures ∙ q.is, q.at)
 
 pub returns-in-Ok-clause-rest : goal.returns-in-Ok-clause-rest
@@ -48,8 +48,8 @@ returns-in-Ok-clause-rest g c rest a =
     (c.eight_of-children.ensures.gathers rest n (c.replace-below.ensures.value ∙ e) f) in
     let q =
     next_aside rest _ c.args.level c.in-Ok.share
-    (c.in-Ok.ensures.ok rest None (full_shape c.args.level)
-    (full_canonical c.args.level) x).came in
+    (c.in-Ok.ensures.joined rest None (full_shape c.args.level)
+    (full_canonical c.args.level) x).joined.came in
     subst (λ (m : Option Name). Aside (g.N.Blocks.seen c.join.new.store).held m rest)
     (sym c.set_aside.ensures) q.aside
 
@@ -64,7 +64,7 @@ returns-in-Ok-clause-grows g c =
     eight_gathers rest _ _ n.level c.args.level l
     (c.eight_of-children.ensures.gathers rest n (c.replace-below.ensures.value ∙ e) f) in
     only_grows _ _ _ _ c.eight_of-children.ensures.only
-    (c.in-Ok.ensures.grows rest None (full_shape c.args.level) (full_canonical c.args.level) x)
+    (c.in-Ok.ensures.joined rest None (full_shape c.args.level) (full_canonical c.args.level) x).grows
 
 pub returns-in-Err-clause-rest : goal.returns-in-Err-clause-rest
 returns-in-Err-clause-rest g c rest a =
@@ -77,8 +77,8 @@ returns-in-Err-clause-rest g c rest a =
     (c.eight_of-children.ensures.gathers rest n (c.replace-below.ensures.value ∙ e) f) in
     subst (λ (m : Option Name). Aside (g.N.Blocks.seen c.join.new.store).held m rest)
     (sym c.replace-below.ensures.after)
-    (c.in-Err.ensures.back rest None (full_shape c.args.level)
-    (full_canonical c.args.level) x)
+    (c.in-Err.ensures.joined rest None (full_shape c.args.level)
+    (full_canonical c.args.level) x).aside
 
 pub returns-in-Err-clause-full : goal.returns-in-Err-clause-full
 returns-in-Err-clause-full g c =
@@ -91,4 +91,4 @@ returns-in-Err-clause-full g c =
     eight_gathers rest _ _ n.level c.args.level l
     (c.eight_of-children.ensures.gathers rest n (c.replace-below.ensures.value ∙ e) f) in
     only_refuses _ _ _ _ _ _ c.eight_of-children.ensures.only
-    (c.in-Err.ensures.full rest None (full_shape c.args.level) (full_canonical c.args.level) x)
+    (c.in-Err.ensures.joined rest None (full_shape c.args.level) (full_canonical c.args.level) x).refuses

@@ -6,4 +6,5 @@ use Rattle.tests_core.proofs.reach.floods.stamped.Goals as goal
 pub found_in-found-requires-clause-root : goal.found_in-found-requires-clause-root
 found_in-found-requires-clause-root g c =
     made_held (known_seen c.args.store.now)
-    (known_seen c.rebuild_stamp.new.store) c.args.side _ _ _ _ refl c.as_ref.ensures.value c.in-Ok.ensures.ok
+    (known_seen c.rebuild_stamp.new.store) c.args.side _ _ _ _ refl c.as_ref.ensures.value
+    (λ before w. (c.in-Ok.ensures.made before w).came)

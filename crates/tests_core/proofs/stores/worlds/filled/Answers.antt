@@ -6,4 +6,5 @@ use Rattle.tests_core.proofs.stores.worlds.filled.Goals as goal
 pub two_versions-requires-clause-root : goal.two_versions-requires-clause-root
 two_versions-requires-clause-root g c =
     made_held (known_seen c.args.store.now)
-    (known_seen c.rebuild_box.new.store) c.args.side _ _ _ _ refl refl c.in-Ok-rebuild_box.ensures.ok
+    (known_seen c.rebuild_box.new.store) c.args.side _ _ _ _ refl refl
+    (λ before w. (c.in-Ok-rebuild_box.ensures.made before w).came)
