@@ -1,5 +1,5 @@
 -- One input after the other.
-use Rattle.std.proofs.Common.{◌≡◌, ℕ, ◌+◌, ◌<◌, ◌≤◌, suc, List, [], ◌∷◌, ◌++◌, Option, length, take, drop, get_or, refl, sym, ap, subst, ◌∙◌, take_all}
+use Rattle.std.proofs.Common.{◌≡◌, ℕ, ◌+◌, ◌<◌, ◌≤◌, zero, suc, List, [], ◌∷◌, ◌++◌, Option, length, take, drop, get_or, refl, sym, ap, subst, ◌∙◌, take_all, arith}
 use Rattle.std.proofs.lemmas.List.{take_more, drop_more, take-append-drop}
 use Rattle.vw_io.specs.declared.shelves.ReadRefused.{ReadRefused}
 use Rattle.vw_io.specs.Outside.{Files}
@@ -36,13 +36,21 @@ parted xs x d k within at =
     ∙ ap (λ others. take k xs ++ others)
     (drop_more xs k d within ∙ ap (λ i. i ∷ drop (k + 1) xs) (sym at))
 
+-- where none of some first items is there, they are the first 0
+none_before : {X : Type 0} → (xs : List X) (k : ℕ) → k < length xs → take k xs ≡ [] → k ≡ 0
+none_before xs zero within none = refl
+none_before [] (suc k) within none = absurd (omega (arith, within))
+none_before (x ∷ xs) (suc k) within none =
+    absurd (let some : suc (length (take k xs)) ≡ 0 = ap length none in omega (arith, some))
+
 pub stops_at : (why : ReadRefused) (name : List ℕ) (files mid : Option Files)
     (inputs : List WantedInput) (input : WantedInput) (k : ℕ) (texts : List (List ℕ))
     (faults calm risen : ℕ) → k < length inputs → input ≡ get_or inputs k input
-    → name ≡ input.name → mid ≡ files → faults ≤ calm → AreTaken files (take k inputs) texts
+    → name ≡ input.name → mid ≡ files → faults ≤ calm → (k ≡ 0 → calm ≡ faults)
+    → AreTaken files (take k inputs) texts
     → RefusesInput why mid input calm risen → calm ≤ risen
     → StopsAt why name inputs files faults risen
-stops_at why name files mid inputs input k texts faults calm risen within at named same grown taken refuses behind =
+stops_at why name files mid inputs input k texts faults calm risen within at named same grown start taken refuses behind =
     record {
       input = input;
       named = named;
@@ -56,6 +64,7 @@ stops_at why name files mid inputs input k texts faults calm risen within at nam
       };
       at_read = calm;
       before = grown;
+      first = λ none. start (none_before inputs k within none);
       cause = subst (λ (f : Option Files). RefusesInput why f input calm risen) same refuses;
       behind = behind;
     }

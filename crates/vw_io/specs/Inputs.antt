@@ -55,7 +55,7 @@ RefusesInput Failed files input faults risen = Rose faults risen
 RefusesInput Memory files input faults risen = ⊤
 
 -- the first input that was not taken has this name, and the count of faults was `at_read` as its
--- read began
+-- read began: what it was at first, where no input was read before
 pub record StopsAt (why : ReadRefused) (name : List ℕ) (inputs : List WantedInput)
     (files : Option Files) (faults risen : ℕ) : Type 0 where
   pub input : WantedInput
@@ -63,6 +63,7 @@ pub record StopsAt (why : ReadRefused) (name : List ℕ) (inputs : List WantedIn
   pub reached : GetsTo files inputs input
   pub at_read : ℕ
   pub before : faults ≤ at_read
+  pub first : reached.before ≡ [] → at_read ≡ faults
   pub cause : RefusesInput why files input at_read risen
   pub behind : at_read ≤ risen
 

@@ -1,6 +1,6 @@
 -- What the system's errors are at the shelf and at the sink over it, and what its count of faults
 -- does.
-use Rattle.std.specs.Prelude.{ℕ, ◌+◌, ◌-◌, ◌^◌, ◌==◌, if◌then◌else◌, min}
+use Rattle.std.specs.Prelude.{ℕ, ◌+◌, ◌-◌, ◌^◌, ◌==◌, if◌then◌else◌, min, List, Option, None}
 use Rattle.std.specs.declared.io.ErrorKind.{ErrorKind}
 use Rattle.std.specs.declared.io.ErrorKind.TheVariants as kinds
 use Rattle.vw_io.specs.declared.shelves.ReadRefused.{ReadRefused}
@@ -9,6 +9,7 @@ use Rattle.vw_io.specs.declared.shelves.WriteRefused.{WriteRefused}
 use Rattle.vw_io.specs.declared.shelves.WriteRefused.TheVariants as writes
 use Rattle.vw_io.specs.declared.sinks.PutRefused.{PutRefused}
 use Rattle.vw_io.specs.declared.sinks.PutRefused.TheVariants as puts
+use Rattle.vw_io.specs.Outside.{Files}
 
 -- an error where a file is opened, where it is read, where it is made, and where bytes are written
 abbrev pub refusal_to_open : ErrorKind → ReadRefused
@@ -27,6 +28,13 @@ refusal_to_make _ = writes.Failed
 abbrev pub refusal_to_write : ErrorKind → PutRefused
 refusal_to_write kinds.OutOfMemory = puts.Memory
 refusal_to_write _ = puts.Failed
+
+-- the files of the system, and the bytes of its output, aren't told
+abbrev pub no_files : Option Files
+no_files = None
+
+abbrev pub no_bytes : Option (List ℕ)
+no_bytes = None
 
 -- the last value of the count
 abbrev pub most_faults : ℕ

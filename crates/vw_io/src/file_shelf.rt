@@ -1,5 +1,9 @@
 //! The files of the system as a shelf.
-ghost use Rattle.std.specs.Prelude.{◌≡◌, None};
+ghost use Rattle.std.specs.Prelude.{◌≡◌, ◌≤◌, [], None, length, OnOk, OnErr};
+ghost use Rattle.vw_io.specs.Faulty.{CountsRead, CountsWrite};
+ghost use Rattle.vw_io.specs.Read.{ReadTold, ReadCause};
+ghost use Rattle.vw_io.specs.System.{no_files};
+ghost use Rattle.vw_io.specs.Write.{WriteTold, WriteCause};
 
 use crate::faults::{answer_read, count_write};
 use crate::files::{read_file, write_file};
@@ -36,7 +40,16 @@ impl<R: Files + Drop> FileShelf<R> {
 impl<R: Files + Drop> Shelf for FileShelf<R> {
     ghost state = { λ shelf. record { files = None; faults = shelf.faults } };
 
-    fn read(&mut self, name: &str, limit: u64, into: &mut Vec<u8>) -> Result<(), ReadRefused> {
+    fn read(&mut self, name: &str, limit: u64, into: &mut Vec<u8>) -> Result<(), ReadRefused>
+        ensures told { ReadTold no_files name.now limit result into.new.items }
+        ensures within { OnOk result (length into.new.items ≤ limit) }
+        ensures empty { OnErr result (into.new.items ≡ []) }
+        ensures unchanged { no_files ≡ no_files }
+        ensures cause { ReadCause result self.old.faults self.new.faults }
+        ensures never_falls { self.old.faults ≤ self.new.faults }
+
+        ensures counts { CountsRead result self.old.faults self.new.faults }
+    {
         match read_file(&self.rt, name, limit, into) {
             Ok(()) => Ok(()),
             Err(refused) => {
@@ -46,7 +59,13 @@ impl<R: Files + Drop> Shelf for FileShelf<R> {
         }
     }
 
-    fn write(&mut self, name: &str, bytes: &[u8]) -> Result<(), WriteRefused> {
+    fn write(&mut self, name: &str, bytes: &[u8]) -> Result<(), WriteRefused>
+        ensures told { WriteTold no_files no_files name.now bytes.now result }
+        ensures cause { WriteCause result self.old.faults self.new.faults }
+        ensures never_falls { self.old.faults ≤ self.new.faults }
+
+        ensures counts { CountsWrite result self.old.faults self.new.faults }
+    {
         match write_file(&self.rt, name, bytes) {
             Ok(()) => Ok(()),
             Err(refused) => {

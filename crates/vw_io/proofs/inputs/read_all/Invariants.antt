@@ -8,5 +8,7 @@ invariant-loop-input g l = record {
   taken : AreTaken (g.S.Shelf.state l.initial.shelf).files
       (take l.input-index l.inputs) l.texts.items;
   unchanged : (g.S.Shelf.state l.shelf).files ≡ (g.S.Shelf.state l.initial.shelf).files;
+  start : l.input-index ≡ 0
+      → (g.S.Shelf.state l.shelf).faults ≡ (g.S.Shelf.state l.initial.shelf).faults;
   grown : (g.S.Shelf.state l.initial.shelf).faults ≤ (g.S.Shelf.state l.shelf).faults;
 }
