@@ -1,5 +1,5 @@
 -- What an audit answers, as an outcome of the whole command.
-use Rattle.std.proofs.Common.{◌≡◌, ℕ, ◌+◌, ◌<◌, ◌≤◌, List, [], ◌∷◌, ◌++◌, Bool, length, map, take, drop, get_or, Option, None, Ok, refl, sym, ap, subst, ◌∙◌, arith}
+use Rattle.std.proofs.Common.{◌≡◌, ℕ, ◌+◌, ◌<◌, ◌≤◌, List, [], ◌∷◌, ◌++◌, Bool, length, map, take, drop, get_or, Option, Some, None, Result, Ok, Err, refl, sym, ap, subst, ◌∙◌, arith}
 use Rattle.std.specs.Prelude.{All, IsTrue, ◌↔◌}
 use Rattle.std.proofs.lemmas.List.{take_more, drop_more, map-append, length-map, length-take-le}
 use Rattle.std.proofs.lemmas.List.Elements.{All-nil, All-cons, All-append}
@@ -21,64 +21,34 @@ use Rattle.audit.specs.Audits.{IsAudited, RefusesAudit, judged_by}
 use Rattle.audit.specs.declared.audits.AuditRefused.{AuditRefused}
 use Rattle.audit.specs.declared.audits.AuditRefused.TheVariants as audits
 use Rattle.script_files.specs.declared.audits.RunLeft.{RunLeft}
-use Rattle.script_files.specs.declared.tallies.Done.TheVariants.{Answered}
+use Rattle.script_files.specs.declared.refusals.CommandRefused.TheVariants.{Text}
+use Rattle.script_files.specs.declared.refusals.NumberedFault.{NumberedFault}
+use Rattle.script_files.specs.declared.refusals.TranscriptLine.{TranscriptLine}
 use Rattle.script_files.specs.declared.refusals.TextRefused.{TextRefused}
-use Rattle.script_files.specs.declared.refusals.TextRefused.TheVariants.{Vox, Script, Collides, NoScene, NoPlace, StoreFull, NoDag, Journal, Transcript, Memory}
-use Rattle.script_files.specs.declared.requests.Request.TheVariants.{Audit}
+use Rattle.script_files.specs.declared.refusals.TextRefused.TheVariants.{Vox, Script, StoreFull, Journal, Transcript, Memory}
 use Rattle.script_files.specs.Orders.{AuditAsked}
 use Rattle.history_model.specs.Refusals.{RefusesJournal}
-use Rattle.script_files.specs.Audits.{AuditTexts, IsJournalOf, audit_texts, AreTranscriptsOf, JournalRead, AllRead, AnswersAudit, RefusesAuditing}
+use Rattle.script_files.specs.Audits.{AuditTexts, IsJournalOf, audit_texts, texts_audited, AreTranscriptsOf, JournalRead, AllRead, AnswersAudit, LacksJournal, LacksScript, LacksTranscript, RefusesAuditing, FindsLog, FindsAnswers, JudgesSaid, JudgesLog, JudgesLeft, verdict_of_answers, audit_means}
 use Rattle.script_files.specs.Auditing.{IsLeft, AddsTranscript, RefusesNextTranscript, RefusesTranscripts}
-use Rattle.script_files.specs.Meanings.{file_in, texts_audited, RefusesTexts}
+use Rattle.script_files.specs.Meanings.{file_in}
 use Rattle.script_files.specs.Outcomes.{Outcome}
 use Rattle.script_files.specs.Refusals.{of_vox, of_journal, of_audit, RefusesScripts}
-use Rattle.script_files.specs.Requests.{inputs_of}
+use Rattle.script_files.specs.Requests.{audit_inputs}
 use Rattle.script_files.specs.Scripts.{lines_told}
-use Rattle.script_files.proofs.Ending.{unwritten}
+use Rattle.script_files.specs.Judging.{AgreesWith, IsJudged}
+use Rattle.script_files.specs.Unread.{no_journal, no_transcripts, said_once}
+use Rattle.script_files.specs.Verdicts.{Verdict, Fine, HasScriptFault, HasJournalFault, HasTranscriptFault, JudgesModels}
+use Rattle.history_model.proofs.OnceLaws.{journals_once}
+use Rattle.script_files.proofs.Accepting.{not_accepted, unwritten}
+use Rattle.script_files.proofs.Following.{models_once, models_not_lacking}
 
 -- ---- refusals
 
-texts_of : (r : TextRefused) (asked : AuditAsked) (texts : List (List ℕ))
-    → RefusesTexts r (Audit asked) texts
-    → RefusesAuditing (file_in texts) (texts_audited asked texts) r
-texts_of (Vox fault) asked texts says = says
-texts_of (Script at) asked texts says = says
-texts_of Collides asked texts says = absurd says
-texts_of (NoScene fault) asked texts says = absurd says
-texts_of NoPlace asked texts says = absurd says
-texts_of (StoreFull full) asked texts says = says
-texts_of (NoDag place) asked texts says = absurd says
-texts_of (Journal line) asked texts says = says
-texts_of (Transcript at) asked texts says = says
-texts_of Memory asked texts says = tt
-
-pub audit_refused : (r : TextRefused) (asked : AuditAsked) (texts : List (List ℕ))
-    → RefusesAuditing (file_in texts) (texts_audited asked texts) r
-    → RefusesTexts r (Audit asked) texts
-audit_refused (Vox fault) asked texts says = says
-audit_refused (Script at) asked texts says = says
-audit_refused Collides asked texts says = absurd says
-audit_refused (NoScene fault) asked texts says = absurd says
-audit_refused NoPlace asked texts says = absurd says
-audit_refused (StoreFull full) asked texts says = says
-audit_refused (NoDag place) asked texts says = absurd says
-audit_refused (Journal line) asked texts says = says
-audit_refused (Transcript at) asked texts says = says
-audit_refused Memory asked texts says = tt
-
 pub vox_refused_at : (fault : VoxFault) (file : List ℕ) (t : AuditTexts) → RefusesFile fault file
     → RefusesAuditing file t (of_vox fault)
-vox_refused_at faults.NotVox file t says = says
-vox_refused_at (faults.Version version) file t says = says
-vox_refused_at faults.NoMain file t says = says
-vox_refused_at (faults.Truncated at) file t says = says
-vox_refused_at (faults.ShortSize at) file t says = says
-vox_refused_at (faults.SizeRange at) file t says = says
-vox_refused_at (faults.XyziWithoutSize at) file t says = says
-vox_refused_at (faults.ShortXyzi at) file t says = says
-vox_refused_at (faults.VoxelOutside at) file t says = says
-vox_refused_at (faults.TooManyModels at) file t says = says
 vox_refused_at faults.Memory file t says = tt
+vox_refused_at faults.NotVox file t says = says
+vox_refused_at _ file t says = says
 
 pub journal_refused : (fault : JournalFault) (file : List ℕ) (t : AuditTexts)
     (models : List Content) → ReadsModels file (Ok models) → RefusesJournal fault t.journal
@@ -103,14 +73,7 @@ module _ (file : List ℕ) (t : AuditTexts) (models : List Content) (log : Log)
     scripts_refused_at (Script at) says =
         record { begun = journal_read; is_of_text = says.0; first = says.1 }
     scripts_refused_at Memory says = tt
-    scripts_refused_at (Vox fault) says = absurd says
-    scripts_refused_at Collides says = absurd says
-    scripts_refused_at (NoScene fault) says = absurd says
-    scripts_refused_at NoPlace says = absurd says
-    scripts_refused_at (StoreFull full) says = absurd says
-    scripts_refused_at (NoDag place) says = absurd says
-    scripts_refused_at (Journal line) says = absurd says
-    scripts_refused_at (Transcript at) says = absurd says
+    scripts_refused_at _ says = absurd says
 
     pub transcripts_refused : (lines : List (List ScriptLine))
         → lines_told log models t.scripts ≡ Ok lines → (r : TextRefused)
@@ -120,14 +83,7 @@ module _ (file : List ℕ) (t : AuditTexts) (models : List Content) (log : Log)
       first = says;
     }
     transcripts_refused lines read Memory says = tt
-    transcripts_refused lines read (Vox fault) says = absurd says
-    transcripts_refused lines read (Script at) says = absurd says
-    transcripts_refused lines read Collides says = absurd says
-    transcripts_refused lines read (NoScene fault) says = absurd says
-    transcripts_refused lines read NoPlace says = absurd says
-    transcripts_refused lines read (StoreFull full) says = absurd says
-    transcripts_refused lines read (NoDag place) says = absurd says
-    transcripts_refused lines read (Journal line) says = absurd says
+    transcripts_refused lines read _ says = absurd says
 
 -- ---- what a run left
 
@@ -212,14 +168,7 @@ next_unread (Transcript at) texts text k old within is so_far says =
       unfit = says.1;
     }
 next_unread Memory texts text k old within is so_far says = tt
-next_unread (Vox fault) texts text k old within is so_far says = absurd says
-next_unread (Script at) texts text k old within is so_far says = absurd says
-next_unread Collides texts text k old within is so_far says = absurd says
-next_unread (NoScene fault) texts text k old within is so_far says = absurd says
-next_unread NoPlace texts text k old within is so_far says = absurd says
-next_unread (StoreFull full) texts text k old within is so_far says = absurd says
-next_unread (NoDag place) texts text k old within is so_far says = absurd says
-next_unread (Journal line) texts text k old within is so_far says = absurd says
+next_unread _ texts text k old within is so_far says = absurd says
 
 -- ---- the parts of all texts
 
@@ -255,18 +204,167 @@ parted_refusal r m n texts rest file journal number parts says =
 -- ---- the outcome
 
 pub audited : (asked : AuditAsked) (texts : List (List ℕ)) (answer : Bool) (old new : ShelfState)
-    → AreTaken old.files (inputs_of (Audit asked)) texts
+    → AreTaken old.files (audit_inputs asked) texts
     → AnswersAudit asked.buckets asked.keep (file_in texts) (texts_audited asked texts) answer
     → new.files ≡ old.files → old.faults ≤ new.faults
-    → Outcome (Ok (record { done = Answered answer; ended = None })) (Audit asked) old new
+    → Outcome (audit_means asked) (Ok answer) old new
 audited asked texts answer old new taken answers files faults = record {
+  texts = texts;
+  taken = taken;
   outputs = [];
-  comes = record {
-    texts = texts;
-    taken = taken;
-    gives = record { answers = answers; none = refl };
-  };
+  gives = record { answers = answers; none = refl };
   whole = subst (λ (f : Option Files). AreWritten [] old.files f) (sym files)
       (unwritten old.files);
   never_falls = faults;
+}
+
+pub not_audited : (asked : AuditAsked) (texts : List (List ℕ)) (r : TextRefused)
+    (old new : ShelfState) → AreTaken old.files (audit_inputs asked) texts
+    → RefusesAuditing (file_in texts) (texts_audited asked texts) r → new.files ≡ old.files
+    → old.faults ≤ new.faults → Outcome (audit_means asked) (Err (Text r)) old new
+not_audited asked texts r old new taken says files faults =
+    not_accepted (audit_means asked) r texts old new taken says files faults
+
+-- ---- the verdict
+
+log_once : (text : List ℕ) (f g : Option Log) → FindsLog text f → FindsLog text g → f ≡ g
+log_once text None None of_f of_g = refl
+log_once text None (Some log) none is = absurd (none log is)
+log_once text (Some log) None is none = absurd (none log is)
+log_once text (Some a) (Some b) of_a of_b =
+    ap Some (journals_once a b of_a.told of_b.told (sym of_a.is ∙ of_b.is))
+
+answers_once : (texts : List (List ℕ)) (f g : Option (List (List LineAnswer)))
+    → FindsAnswers texts f → FindsAnswers texts g → f ≡ g
+answers_once texts None None of_f of_g = refl
+answers_once texts None (Some said) none are = absurd (none said are)
+answers_once texts (Some said) None are none = absurd (none said are)
+answers_once texts (Some a) (Some b) of_a of_b =
+    ap Some (said_once a b of_a.answers of_b.answers (sym of_a.are ∙ of_b.are))
+
+judged_said : (texts : List (List ℕ)) (read : Result (List (List ScriptLine)) NumberedFault)
+    (v w : Verdict) → JudgesSaid texts read v → JudgesSaid texts read w → v ≡ w
+judged_said texts (Err at) v w of_v of_w = of_v ∙ sym of_w
+judged_said texts (Ok lines) v w of_v of_w =
+    of_v.2
+    ∙ ap verdict_of_answers (answers_once texts of_v.0 of_w.0 of_v.1 of_w.1)
+    ∙ sym of_w.2
+
+judged_log : (t : AuditTexts) (models : List Content) (log : Option Log) (v w : Verdict)
+    → JudgesLog t models log v → JudgesLog t models log w → v ≡ w
+judged_log t models None v w of_v of_w = of_v ∙ sym of_w
+judged_log t models (Some log) v w of_v of_w =
+    judged_said t.transcripts (lines_told log models t.scripts) v w of_v of_w
+
+judged_left : (t : AuditTexts) (models : List Content) (v w : Verdict) → JudgesLeft t models v
+    → JudgesLeft t models w → v ≡ w
+judged_left t models v w of_v of_w =
+    judged_log t models of_w.0 v w
+    (subst (λ (log : Option Log). JudgesLog t models log v)
+    (log_once t.journal of_v.0 of_w.0 of_v.1 of_w.1) of_v.2) of_w.2
+
+-- what the transcripts are judged to be, where no script has a fault
+said_judged : (t : AuditTexts) (models : List Content) (log : Log) (lines : List (List ScriptLine))
+    (v : Verdict) → lines_told log models t.scripts ≡ Ok lines
+    → JudgesSaid t.transcripts (Ok lines) v
+    → JudgesSaid t.transcripts (lines_told log models t.scripts) v
+said_judged t models log lines v read judged =
+    subst (λ (r : Result (List (List ScriptLine)) NumberedFault). JudgesSaid t.transcripts r v)
+    (sym read) judged
+
+read_fine : (file : List ℕ) (t : AuditTexts) → AllRead file t
+    → JudgesModels (JudgesLeft t) file Fine
+read_fine file t all =
+    let begun = all.scripts.begun in
+    record {
+      reading = Ok begun.models;
+      says = begun.gives;
+      judged = (
+        Some begun.log,
+        begun.journal,
+        said_judged t begun.models begun.log all.scripts.lines Fine all.scripts.read
+            (Some all.said, all.transcripts, refl),
+      );
+    }
+
+lacks_journal : (file : List ℕ) (t : AuditTexts) (line : ℕ) → LacksJournal file t line
+    → JudgesModels (JudgesLeft t) file HasJournalFault
+lacks_journal file t line says = record {
+  reading = Ok says.models;
+  says = says.gives;
+  judged = (None, (λ log is. no_journal t.journal line log says.first is), refl);
+}
+
+lacks_script : (file : List ℕ) (t : AuditTexts) (at : NumberedFault) → LacksScript file t at
+    → JudgesModels (JudgesLeft t) file (HasScriptFault at)
+lacks_script file t at says =
+    let begun = says.begun in
+    record {
+      reading = Ok begun.models;
+      says = begun.gives;
+      judged = (
+        Some begun.log,
+        begun.journal,
+        subst
+            (λ (r : Result (List (List ScriptLine)) NumberedFault).
+            JudgesSaid t.transcripts r (HasScriptFault at)) (sym says.first) refl,
+      );
+    }
+
+lacks_transcript : (file : List ℕ) (t : AuditTexts) (at : TranscriptLine)
+    → LacksTranscript file t at → JudgesModels (JudgesLeft t) file HasTranscriptFault
+lacks_transcript file t at says =
+    let begun = says.scripts.begun in
+    record {
+      reading = Ok begun.models;
+      says = begun.gives;
+      judged = (
+        Some begun.log,
+        begun.journal,
+        said_judged t begun.models begun.log says.scripts.lines HasTranscriptFault says.scripts.read
+            (None, (λ said are. no_transcripts t.transcripts at said says.first are), refl),
+      );
+    }
+
+audit_refused_by : (file : List ℕ) (t : AuditTexts) (r : TextRefused) → RefusesAuditing file t r
+    → AgreesWith (JudgesModels (JudgesLeft t) file) r
+audit_refused_by file t (Vox fault) says =
+    record { reading = Err fault; says = says; judged = refl }
+audit_refused_by file t (Journal line) says = lacks_journal file t line says
+audit_refused_by file t (Script at) says = lacks_script file t at says
+audit_refused_by file t (Transcript at) says = lacks_transcript file t at says
+audit_refused_by file t (StoreFull full) says = read_fine file t says.all
+audit_refused_by file t Memory says = tt
+audit_refused_by file t _ says = absurd says
+
+said_or_none : (texts : List (List ℕ)) (read : Result (List (List ScriptLine)) NumberedFault)
+    → ((v : Verdict) → JudgesSaid texts read v → ⊥) → ⊥
+said_or_none texts (Err at) none = none (HasScriptFault at) refl
+said_or_none texts (Ok lines) none =
+    none HasTranscriptFault (None, (λ said are. none Fine (Some said, are, refl)), refl)
+
+left_or_none : (t : AuditTexts) (models : List Content)
+    → ((v : Verdict) → JudgesLeft t models v → ⊥) → ⊥
+left_or_none t models none =
+    none HasJournalFault (
+      None,
+      (λ log is. said_or_none t.transcripts (lines_told log models t.scripts)
+          (λ v judged. none v (Some log, is, judged))),
+      refl,
+    )
+
+pub audit_judged : (asked : AuditAsked) → IsJudged (audit_means asked)
+audit_judged asked = record {
+  one = λ texts v w of_v of_w.
+      models_once (JudgesLeft (texts_audited asked texts))
+      (λ models a b of_a of_b. judged_left (texts_audited asked texts) models a b of_a of_b)
+      (file_in texts) v w of_v of_w;
+  given = λ texts answer outputs g.
+      read_fine (file_in texts) (texts_audited asked texts) g.answers.all;
+  refused = λ texts r says.
+      audit_refused_by (file_in texts) (texts_audited asked texts) r says;
+  some = λ readings texts none.
+      models_not_lacking (JudgesLeft (texts_audited asked texts)) (file_in texts) readings
+      (λ models lacking. left_or_none (texts_audited asked texts) models lacking) none;
+  computed = λ readings told texts. absurd (let no : ⊥ = cc in no);
 }

@@ -1,5 +1,5 @@
 -- What the file of a journal's versions gives, as an outcome of the whole command.
-use Rattle.std.proofs.Common.{◌≡◌, ◌≤◌, ℕ, ◌+◌, ◌^◌, List, [], ◌∷◌, Option, Ok, Err, None, refl, sym, ap, subst, ◌∙◌, inl, inr, arith}
+use Rattle.std.proofs.Common.{◌≡◌, ◌≤◌, ℕ, ◌+◌, ◌^◌, List, [], ◌∷◌, Option, Some, Ok, Err, None, refl, sym, ap, subst, ◌∙◌, inl, inr, arith}
 use Rattle.vw_io.specs.Outside.{Files, ShelfState}
 use Rattle.vw_io.specs.Inputs.{AreTaken}
 use Rattle.vw_io.specs.Outputs.{Named, AreWritten, StopsWith}
@@ -10,44 +10,34 @@ use Rattle.vox_read.specs.Contents.{Content}
 use Rattle.vox_read.specs.Files.{ReadsModels, RefusesFile}
 use Rattle.history_model.specs.declared.reading.JournalFault.{JournalFault}
 use Rattle.history_model.specs.declared.reading.JournalFault.TheVariants as journals
-use Rattle.history_model.specs.Logs.{Log}
+use Rattle.history_model.specs.Logs.{Log, IsLegal}
 use Rattle.history_model.specs.Refusals.{RefusesJournal}
 use Rattle.script_files.specs.Audits.{IsJournalOf}
 use Rattle.node_words.specs.declared.shares.Full.{Full}
-use Rattle.script_files.specs.declared.refusals.CommandRefused.TheVariants.{Output}
+use Rattle.script_files.specs.declared.refusals.CommandRefused.TheVariants.{Text, Output}
 use Rattle.script_files.specs.declared.refusals.OutputRefused.{OutputRefused}
 use Rattle.script_files.specs.declared.refusals.TextRefused.{TextRefused}
-use Rattle.script_files.specs.declared.refusals.TextRefused.TheVariants.{Vox, Script, Collides, NoScene, NoPlace, StoreFull, NoDag, Journal, Transcript, Memory}
-use Rattle.script_files.specs.declared.requests.Request.TheVariants.{Dag}
-use Rattle.script_files.specs.declared.tallies.Done.TheVariants.{Written}
+use Rattle.script_files.specs.declared.refusals.TextRefused.TheVariants.{Vox, StoreFull, Journal, Memory}
 use Rattle.dag_answers.specs.declared.making.HistoryRefused.TheVariants as histories
 use Rattle.dag_answers.specs.Histories.{IsFileOfHistory, RefusesHistory}
 use Rattle.dag_answers.specs.Replaying.{AreLegalRecords}
 use Rattle.dag_answers.specs.Legality.{IsFirstIllegal}
-use Rattle.dag_answers.proofs.LegalLaws.{legal_whole}
+use Rattle.dag_answers.proofs.LegalLaws.{legal_whole, first_not_legal, legal_records}
 use Rattle.dag_answers.proofs.ToldLaws.{told_marks}
-use Rattle.script_files.specs.Dags.{GivesHistory, MakesDag, FillsReplay, RefusesDagging, LacksHistory, journal_in}
-use Rattle.script_files.specs.Meanings.{file_in, RefusesTexts}
+use Rattle.script_files.specs.Dags.{GivesHistory, GivesLegal, MakesDag, FillsReplay, RefusesDagging, LacksHistory, journal_in, HasIllegal, JudgesLegal, FindsLegalLog, verdict_of_legal, dag_inputs, dag_means}
+use Rattle.script_files.specs.Meanings.{file_in}
 use Rattle.script_files.specs.Orders.{DagAsked}
 use Rattle.script_files.specs.Outcomes.{Outcome}
 use Rattle.script_files.specs.Refusals.{of_vox, of_journal, output_name}
-use Rattle.script_files.specs.Requests.{inputs_of}
+use Rattle.script_files.specs.Judging.{AgreesWith, IsJudged}
+use Rattle.script_files.specs.Verdicts.{Verdict, Fine, HasJournalFault, JudgesModels}
+use Rattle.script_files.specs.Unread.{no_journal}
+use Rattle.history_model.proofs.OnceLaws.{journals_once}
+use Rattle.script_files.proofs.Accepting.{not_accepted}
+use Rattle.script_files.proofs.Following.{models_once, models_not_lacking}
 use Rattle.script_files.proofs.Writing.{stops_earlier}
 
 -- ---- refusals
-
-pub dagging_refused : (r : TextRefused) (asked : DagAsked) (texts : List (List ℕ))
-    → RefusesDagging (file_in texts) (journal_in texts) r → RefusesTexts r (Dag asked) texts
-dagging_refused (Vox fault) asked texts says = says
-dagging_refused (Script at) asked texts says = absurd says
-dagging_refused Collides asked texts says = absurd says
-dagging_refused (NoScene fault) asked texts says = absurd says
-dagging_refused NoPlace asked texts says = absurd says
-dagging_refused (StoreFull full) asked texts says = says
-dagging_refused (NoDag place) asked texts says = absurd says
-dagging_refused (Journal line) asked texts says = says
-dagging_refused (Transcript at) asked texts says = absurd says
-dagging_refused Memory asked texts says = tt
 
 pub line_refused : (fault : JournalFault) (file journal : List ℕ) (models : List Content)
     → ReadsModels file (Ok models) → RefusesJournal fault journal
@@ -58,17 +48,9 @@ line_refused journals.Memory file journal models gives says = tt
 
 pub file_refused : (fault : VoxFault) (file journal : List ℕ) → RefusesFile fault file
     → RefusesDagging file journal (of_vox fault)
-file_refused faults.NotVox file journal says = says
-file_refused (faults.Version version) file journal says = says
-file_refused faults.NoMain file journal says = says
-file_refused (faults.Truncated at) file journal says = says
-file_refused (faults.ShortSize at) file journal says = says
-file_refused (faults.SizeRange at) file journal says = says
-file_refused (faults.XyziWithoutSize at) file journal says = says
-file_refused (faults.ShortXyzi at) file journal says = says
-file_refused (faults.VoxelOutside at) file journal says = says
-file_refused (faults.TooManyModels at) file journal says = says
 file_refused faults.Memory file journal says = tt
+file_refused faults.NotVox file journal says = says
+file_refused _ file journal says = says
 
 module _ (file journal : List ℕ) (models : List Content) (log : Log)
     (gives : ReadsModels file (Ok models)) (of : IsJournalOf journal log) where
@@ -110,18 +92,16 @@ dag_output asked dag = record { name = asked.out; bytes = dag } ∷ []
 
 pub dag_written : (asked : DagAsked) (texts : List (List ℕ)) (dag : List ℕ)
     (old mid new : ShelfState)
-    → AreTaken old.files (inputs_of (Dag asked)) texts
+    → AreTaken old.files (dag_inputs asked) texts
     → MakesDag (file_in texts) (journal_in texts) dag → mid.files ≡ old.files
     → old.faults ≤ mid.faults → AreWritten (dag_output asked dag) mid.files new.files
     → mid.faults ≤ new.faults
-    → Outcome (Ok (record { done = Written; ended = None })) (Dag asked) old new
+    → Outcome (dag_means asked) (Ok tt) old new
 dag_written asked texts dag old mid new taken makes same grown whole more = record {
+  texts = texts;
+  taken = taken;
   outputs = dag_output asked dag;
-  comes = record {
-    texts = texts;
-    taken = taken;
-    gives = record { dag = dag; makes = makes; are = refl };
-  };
+  gives = record { dag = dag; makes = makes; are = refl };
   whole = subst
       (λ (f : Option Files). AreWritten (dag_output asked dag) f new.files) same whole;
   never_falls = omega (arith, grown, more);
@@ -129,19 +109,17 @@ dag_written asked texts dag old mid new taken makes same grown whole more = reco
 
 pub dag_stopped : (asked : DagAsked) (texts : List (List ℕ)) (dag : List ℕ) (why : WriteRefused)
     (name : List ℕ) (r : OutputRefused) (old mid new : ShelfState)
-    → AreTaken old.files (inputs_of (Dag asked)) texts
+    → AreTaken old.files (dag_inputs asked) texts
     → MakesDag (file_in texts) (journal_in texts) dag → mid.files ≡ old.files
     → old.faults ≤ mid.faults → r.why ≡ why → output_name r.name ≡ name
     → StopsWith why name (dag_output asked dag) mid.files new.files mid.faults new.faults
-    → Outcome (Err (Output r)) (Dag asked) old new
+    → Outcome (dag_means asked) (Err (Output r)) old new
 dag_stopped asked texts dag why name r old mid new taken makes same grown is_why is_name stops =
     record {
+      texts = texts;
+      taken = taken;
       outputs = dag_output asked dag;
-      begins = record {
-        texts = texts;
-        taken = taken;
-        begins = record { dag = dag; makes = makes; are = refl };
-      };
+      begun = record { dag = dag; makes = makes; are = refl };
       stops =
           stops_earlier r.why (output_name r.name) (dag_output asked dag) old mid new same grown
           (subst (λ (w : WriteRefused). StopsWith w (output_name r.name)
@@ -149,3 +127,88 @@ dag_stopped asked texts dag why name r old mid new taken makes same grown is_why
           (subst (λ (n : List ℕ). StopsWith why n
           (dag_output asked dag) mid.files new.files mid.faults new.faults) (sym is_name) stops));
     }
+
+pub no_dag : (asked : DagAsked) (texts : List (List ℕ)) (r : TextRefused) (old new : ShelfState)
+    → AreTaken old.files (dag_inputs asked) texts
+    → RefusesDagging (file_in texts) (journal_in texts) r → new.files ≡ old.files
+    → old.faults ≤ new.faults → Outcome (dag_means asked) (Err (Text r)) old new
+no_dag asked texts r old new taken says files faults =
+    not_accepted (dag_means asked) r texts old new taken says files faults
+
+-- ---- the verdict
+
+legal_log_once : (models : List Content) (text : List ℕ) (f g : Option Log)
+    → FindsLegalLog models text f → FindsLegalLog models text g → f ≡ g
+legal_log_once models text None None of_f of_g = refl
+legal_log_once models text None (Some log) none is = absurd (none log is.0 is.1)
+legal_log_once models text (Some log) None is none = absurd (none log is.0 is.1)
+legal_log_once models text (Some a) (Some b) of_a of_b =
+    ap Some (journals_once a b of_a.0.told of_b.0.told (sym of_a.0.is ∙ of_b.0.is))
+
+legal_once : (text : List ℕ) (models : List Content) (v w : Verdict) → JudgesLegal text models v
+    → JudgesLegal text models w → v ≡ w
+legal_once text models v w of_v of_w =
+    of_v.2
+    ∙ ap verdict_of_legal (legal_log_once models text of_v.0 of_w.0 of_v.1 of_w.1)
+    ∙ sym of_w.2
+
+-- a journal of an illegal history tells no legal one
+illegal_alone : (file journal : List ℕ) (line : ℕ) (has : HasIllegal file journal line) (log : Log)
+    → IsJournalOf journal log → IsLegal (2 ^ log.side) has.given.models log → ⊥
+illegal_alone file journal line has log is legal =
+    let given = has.given in
+    let same : log ≡ given.log =
+    journals_once log given.log is.told given.is.told (sym is.is ∙ given.is.is) in
+    first_not_legal (2 ^ given.log.side) given.models given.log has.number has.illegal
+    (legal_records given.models given.log
+    (subst (λ (l : Log). IsLegal (2 ^ l.side) given.models l) same legal))
+
+legal_fine : (file journal : List ℕ) → GivesLegal file journal
+    → JudgesModels (JudgesLegal journal) file Fine
+legal_fine file journal legal = record {
+  reading = Ok legal.given.models;
+  says = legal.given.gives;
+  judged = (Some legal.given.log, (legal.given.is, legal.legal), refl);
+}
+
+lacks_history : (file journal : List ℕ) (line : ℕ) → LacksHistory file journal line
+    → JudgesModels (JudgesLegal journal) file HasJournalFault
+lacks_history file journal line (inl lacks) = record {
+  reading = Ok lacks.models;
+  says = lacks.gives;
+  judged = (None, (λ log is legal. no_journal journal line log lacks.first is), refl);
+}
+lacks_history file journal line (inr has) = record {
+  reading = Ok has.given.models;
+  says = has.given.gives;
+  judged = (None, illegal_alone file journal line has, refl);
+}
+
+dag_refused_by : (file journal : List ℕ) (r : TextRefused) → RefusesDagging file journal r
+    → AgreesWith (JudgesModels (JudgesLegal journal) file) r
+dag_refused_by file journal (Vox fault) says =
+    record { reading = Err fault; says = says; judged = refl }
+dag_refused_by file journal (Journal line) says = lacks_history file journal line says
+dag_refused_by file journal (StoreFull full) says = legal_fine file journal says.legal
+dag_refused_by file journal Memory says = tt
+dag_refused_by file journal _ says = absurd says
+
+legal_or_none : (text : List ℕ) (models : List Content)
+    → ((v : Verdict) → JudgesLegal text models v → ⊥) → ⊥
+legal_or_none text models none =
+    none HasJournalFault
+    (None, (λ log is legal. none Fine (Some log, (is, legal), refl)), refl)
+
+pub dag_judged : (asked : DagAsked) → IsJudged (dag_means asked)
+dag_judged asked = record {
+  one = λ texts v w of_v of_w.
+      models_once (JudgesLegal (journal_in texts))
+      (λ models a b of_a of_b. legal_once (journal_in texts) models a b of_a of_b)
+      (file_in texts) v w of_v of_w;
+  given = λ texts told outputs g. legal_fine (file_in texts) (journal_in texts) g.makes.legal;
+  refused = λ texts r says. dag_refused_by (file_in texts) (journal_in texts) r says;
+  some = λ readings texts none.
+      models_not_lacking (JudgesLegal (journal_in texts)) (file_in texts) readings
+      (λ models lacking. legal_or_none (journal_in texts) models lacking) none;
+  computed = λ readings told texts. absurd (let no : ⊥ = cc in no);
+}

@@ -1,4 +1,4 @@
--- What each stage gives, as an outcome of the whole command.
+-- What each stage of a run gives, as an outcome of the whole command.
 use Rattle.std.proofs.Common.{◌≡◌, ◌⊎◌, inl, inr, ℕ, ◌^◌, ◌≤◌, Bool, List, [], ◌∷◌, ◌++◌, length, map, Option, Some, None, Result, Ok, Err, refl, sym, ap, subst, ◌∙◌, arith, append_assoc, append-nil}
 use Rattle.std.specs.Prelude.{All}
 use Rattle.std.proofs.lemmas.List.{length-append}
@@ -6,8 +6,8 @@ use Rattle.std.proofs.lemmas.List.Elements.{All-append, All-contains, All-head, 
 use Rattle.vw_io.specs.declared.shelves.WriteRefused.{WriteRefused}
 use Rattle.vw_io.specs.declared.shelves.WriteRefused.TheVariants.{Memory}
 use Rattle.history_model.specs.Logs.{Log}
-use Rattle.vw_io.specs.Outside.{Files, ShelfState, KeepsFiles}
-use Rattle.vw_io.specs.Inputs.{WantedInput, AreTaken}
+use Rattle.vw_io.specs.Outside.{Files, ShelfState}
+use Rattle.vw_io.specs.Inputs.{AreTaken}
 use Rattle.vw_io.specs.Outputs.{Named, AreWritten, StopsWith}
 use Rattle.history_model.specs.Journal.{journal_of}
 use Rattle.vox_read.specs.Contents.{Content}
@@ -35,91 +35,31 @@ use Rattle.report.specs.Numbers.{AreNumbers}
 use Rattle.report.specs.Roots.{RootsTellWorlds, listed_root}
 use Rattle.world_run.specs.declared.runs.ScriptsRun.{ScriptsRun}
 use Rattle.world_run.specs.declared.endings.WorldRan.{WorldRan}
-use Rattle.script_files.specs.declared.tallies.Done.TheVariants.{Counted, Ran}
 use Rattle.script_files.specs.declared.tallies.Tally.{Tally}
 use Rattle.script_files.specs.declared.refusals.CommandRefused.TheVariants.{Text, Output}
 use Rattle.script_files.specs.declared.refusals.OutputName.{OutputName}
 use Rattle.script_files.specs.declared.refusals.OutputRefused.{OutputRefused}
 use Rattle.script_files.specs.declared.refusals.TextRefused.{TextRefused}
-use Rattle.script_files.specs.declared.refusals.TextRefused.TheVariants.{Vox, Script, Collides, NoScene, NoPlace, StoreFull, NoDag, Journal, Transcript}
+use Rattle.script_files.specs.declared.refusals.TextRefused.TheVariants.{Vox, Script, Collides}
 use Rattle.script_files.specs.declared.refusals.TextRefused.TheVariants as texts_refused
-use Rattle.script_files.specs.declared.requests.Request.{Request}
-use Rattle.script_files.specs.declared.requests.Request.TheVariants.{Count, Run}
+use Rattle.script_files.specs.declared.refusals.NumberedFault.{NumberedFault}
 use Rattle.script_files.specs.declared.scripts.Read.{Read}
 use Rattle.script_files.specs.Orders.{Asked}
 use Rattle.script_files.specs.Refusals.{output_name}
-use Rattle.script_files.specs.Scripts.{AreFitScripts}
+use Rattle.script_files.specs.Scripts.{AreFitScripts, lines_asked}
 use Rattle.script_files.specs.Reports.{ReportIs, BeginsTexts}
-use Rattle.script_files.specs.Requests.{RunOutputs, given_seen, given_by, inputs_of, named_texts, transcript_name, save_file, saved_output, wanted_output, written_first, written_last, texts_written}
-use Rattle.script_files.specs.Meanings.{file_in, IsAccepted, TalliesRun, RefusesTexts, ScriptsBegan}
+use Rattle.script_files.specs.Requests.{RunOutputs, given_seen, given_by, run_inputs, named_texts, transcript_name, save_file, saved_output, wanted_output, written_first, written_last, texts_written}
+use Rattle.script_files.specs.Judging.{AgreesWith, FilesAreRead, IsJudged}
+use Rattle.script_files.specs.Meanings.{file_in, scripts_in}
+use Rattle.script_files.specs.Runs.{IsAccepted, TalliesRun, ScriptsBegan, FaultsScript, HasTakenName, RefusesRun, verdict_of_names, run_means}
 use Rattle.script_files.specs.Outcomes.{Outcome}
-use Rattle.script_files.specs.Stages.{CountsFile, JournalIs, ReadsInputs, given_of, ClosesRun, TellsClosedRun, HistoryTexts, AreTexts, WroteHistory, StopsOpen, StopsClosed, WritesClosed, WritesHistory, WroteRun, BeginsRun, StopsRun, WritesRun}
+use Rattle.script_files.specs.Verdicts.{Verdict, Fine, HasScriptFault, NamesCollide, JudgesModels}
+use Rattle.script_files.specs.Stages.{JournalIs, ReadsInputs, given_of, ClosesRun, TellsClosedRun, HistoryTexts, AreTexts, WroteHistory, StopsOpen, StopsClosed, WritesClosed, WritesHistory, WroteRun, BeginsRun, StopsRun, WritesRun}
 use Rattle.world_run.proofs.Accepting.{saves_fit}
 use Rattle.script_files.proofs.SavedFiles.{IsGood, save_same}
+use Rattle.script_files.proofs.Accepting.{not_accepted}
+use Rattle.script_files.proofs.Following.{models_once, models_computed, computed_is_some}
 use Rattle.script_files.proofs.Writing.{both_written, stops_after, stops_before, stops_earlier, stops_at_once}
-
--- the first text is within the first input's limit
-pub file_within : (files : Option Files) (input : WantedInput) (inputs : List WantedInput)
-    (texts : List (List ℕ)) → AreTaken files (input ∷ inputs) texts
-    → length (file_in texts) ≤ input.limit
-file_within files input inputs [] taken = absurd taken
-file_within files input inputs (text ∷ texts) taken = taken.0.within
-
--- nothing written is the shelf as it was
-pub unwritten : (files : Option Files) → AreWritten [] files files
-unwritten None = refl
-unwritten (Some files) = record { each = λ name. refl }
-
-keeps : (old new : ShelfState) → new.files ≡ old.files → old.faults ≤ new.faults
-    → KeepsFiles old new
-keeps old new files faults = record { files = files; never_falls = faults }
-
--- ---- `count`
-
-pub counted : (file : List ℕ) (texts : List (List ℕ)) (number : ℕ) (old new : ShelfState)
-    → AreTaken old.files (inputs_of (Count file)) texts → CountsFile (file_in texts) number
-    → new.files ≡ old.files → old.faults ≤ new.faults
-    → Outcome (Ok (record { done = Counted number; ended = None })) (Count file) old new
-counted file texts number old new taken counts files faults =
-    record {
-      outputs = [];
-      comes = record {
-        texts = texts;
-        taken = taken;
-        gives =
-            record { models = counts.models; gives = counts.gives; counted = counts.counted; none = refl };
-      };
-      whole = subst (λ (f : Option Files). AreWritten [] old.files f) (sym files)
-          (unwritten old.files);
-      never_falls = faults;
-    }
-
--- ---- every command
-
--- the inputs were taken, and their texts are refused
-pub not_accepted : (r : TextRefused) (a : Request) (texts : List (List ℕ)) (old new : ShelfState)
-    → AreTaken old.files (inputs_of a) texts → RefusesTexts r a texts → new.files ≡ old.files
-    → old.faults ≤ new.faults → Outcome (Err (Text r)) a old new
-not_accepted (Vox fault) a texts old new taken says files faults =
-    (record { texts = texts; taken = taken; says = says }, keeps old new files faults)
-not_accepted (Script at) a texts old new taken says files faults =
-    (record { texts = texts; taken = taken; says = says }, keeps old new files faults)
-not_accepted Collides a texts old new taken says files faults =
-    (record { texts = texts; taken = taken; says = says }, keeps old new files faults)
-not_accepted (NoScene fault) a texts old new taken says files faults =
-    (record { texts = texts; taken = taken; says = says }, keeps old new files faults)
-not_accepted NoPlace a texts old new taken says files faults =
-    (record { texts = texts; taken = taken; says = says }, keeps old new files faults)
-not_accepted (StoreFull full) a texts old new taken says files faults =
-    (record { texts = texts; taken = taken; says = says }, keeps old new files faults)
-not_accepted (Journal line) a texts old new taken says files faults =
-    (record { texts = texts; taken = taken; says = says }, keeps old new files faults)
-not_accepted (Transcript at) a texts old new taken says files faults =
-    (record { texts = texts; taken = taken; says = says }, keeps old new files faults)
-not_accepted (NoDag place) a texts old new taken says files faults =
-    (record { texts = texts; taken = taken; says = says }, keeps old new files faults)
-not_accepted texts_refused.Memory a texts old new taken says files faults =
-    (tt, keeps old new files faults)
 
 -- ---- what a run writes
 
@@ -479,7 +419,7 @@ module _ (asked : Asked) (models : List Content) (lines : List (List ScriptLine)
 -- ---- `run`
 
 module _ (asked : Asked) (texts : List (List ℕ)) (r : Read) (run : ScriptsRun)
-    (old mid new : ShelfState) (taken : AreTaken old.files (inputs_of (Run asked)) texts)
+    (old mid new : ShelfState) (taken : AreTaken old.files (run_inputs asked) texts)
     (read : ReadsInputs asked texts r)
     (ran : SessionsRanKeeping asked.keep asked.tint asked.plan r.models 0 r.scripts.items
     run.transcripts.items run.run.sessions)
@@ -503,28 +443,27 @@ module _ (asked : Asked) (texts : List (List ℕ)) (r : Read) (run : ScriptsRun)
         fits log closes;
   }
 
-  pub run_written : (tally : Tally) (closed : Closed) → WroteRun asked run tally closed mid new
-      → Outcome (Ok (record { done = Ran tally; ended = Some closed })) (Run asked) old new
-  run_written tally closed wrote =
+  pub run_written : (w : RunWritten) → WroteRun asked run w.tally w.ended mid new
+      → Outcome (run_means asked) (Ok w) old new
+  run_written w wrote =
+      let closed = w.ended in
       record {
+        texts = texts;
+        taken = taken;
         outputs = texts_written asked (given_of run) closed.history wrote.report;
-        comes = record {
-          texts = texts;
-          taken = taken;
-          gives = record {
-            log = closed.history;
-            transcripts = run.transcripts.items;
-            accepted = accepts closed.history wrote.closes.closes;
-            ends = ends_world asked r.models r.scripts.items run ran plan_is tint_is models_are kept
-                fits closed wrote.closes;
-            tallied = subst (λ (ms : List Content). TalliesRun asked ms closed.history tally)
-                models_are wrote.tallied;
-            report = wrote.report;
-            reported = subst (λ (ms : List Content).
-                ReportIs asked.report ms closed.history wrote.report) models_are wrote.reported;
-            are = texts_same asked r.models r.scripts.items run ran plan_is tint_is models_are kept
-                fits closed.history wrote.closes.closes wrote.report;
-          };
+        gives = record {
+          log = closed.history;
+          transcripts = run.transcripts.items;
+          accepted = accepts closed.history wrote.closes.closes;
+          ends = ends_world asked r.models r.scripts.items run ran plan_is tint_is models_are kept
+              fits closed wrote.closes;
+          tallied = subst (λ (ms : List Content). TalliesRun asked ms closed.history w.tally)
+              models_are wrote.tallied;
+          report = wrote.report;
+          reported = subst (λ (ms : List Content).
+              ReportIs asked.report ms closed.history wrote.report) models_are wrote.reported;
+          are = texts_same asked r.models r.scripts.items run ran plan_is tint_is models_are kept
+              fits closed.history wrote.closes.closes wrote.report;
         };
         whole = subst (λ (f : Option Files).
             AreWritten (texts_written asked (given_of run) closed.history wrote.report) f new.files)
@@ -543,16 +482,82 @@ module _ (asked : Asked) (texts : List (List ℕ)) (r : Read) (run : ScriptsRun)
   }
 
   pub run_stopped : (refused : OutputRefused) → StopsRun asked run refused mid new
-      → Outcome (Err (Output refused)) (Run asked) old new
-  run_stopped refused stopped =
-      record {
-        outputs = stopped.outputs;
-        begins = record {
-          texts = texts;
-          taken = taken;
-          begins = run_begun stopped.outputs stopped.begins;
-        };
-        stops = stops_earlier refused.why
-            (output_name refused.name) stopped.outputs old mid new same
-            grown stopped.stops;
-      }
+      → Outcome (run_means asked) (Err (Output refused)) old new
+  run_stopped refused stopped = record {
+    texts = texts;
+    taken = taken;
+    outputs = stopped.outputs;
+    begun = run_begun stopped.outputs stopped.begins;
+    stops = stops_earlier refused.why (output_name refused.name) stopped.outputs old mid new same
+        grown stopped.stops;
+  }
+
+-- the inputs were taken, and their texts are refused
+pub run_refused : (asked : Asked) (texts : List (List ℕ)) (r : TextRefused) (old new : ShelfState)
+    → AreTaken old.files (run_inputs asked) texts → RefusesRun asked texts r
+    → new.files ≡ old.files → old.faults ≤ new.faults
+    → Outcome (run_means asked) (Err (Text r)) old new
+run_refused asked texts r old new taken says files faults =
+    not_accepted (run_means asked) r texts old new taken says files faults
+
+-- ---- the verdict
+
+abbrev judges_names : Asked → List (List ℕ) → List Content → Verdict → Type 0
+judges_names asked texts models v =
+    v ≡ verdict_of_names asked (lines_asked asked models (scripts_in texts))
+
+given_fine : (asked : Asked) (texts : List (List ℕ)) (log : Log)
+    (transcripts : List (List LineAnswer)) (a : IsAccepted asked texts log transcripts)
+    → verdict_of_names asked (lines_asked asked a.models (scripts_in texts)) ≡ Fine
+given_fine asked texts log transcripts a = rw (a.read, a.apart) refl
+
+script_faulty : (asked : Asked) (texts : List (List ℕ)) (at : NumberedFault)
+    (says : FaultsScript asked texts at)
+    → verdict_of_names asked (lines_asked asked says.models (scripts_in texts))
+    ≡ HasScriptFault at
+script_faulty asked texts at says = rw says.first refl
+
+name_taken : (asked : Asked) (texts : List (List ℕ)) (says : HasTakenName asked texts)
+    → verdict_of_names asked (lines_asked asked says.models (scripts_in texts)) ≡ NamesCollide
+name_taken asked texts says = rw (says.read, says.collides) refl
+
+run_refused_by : (asked : Asked) (texts : List (List ℕ)) (r : TextRefused)
+    → RefusesRun asked texts r
+    → AgreesWith (JudgesModels (judges_names asked texts) (file_in texts)) r
+run_refused_by asked texts (Vox fault) says =
+    record { reading = Err fault; says = says; judged = refl }
+run_refused_by asked texts (Script at) says = record {
+  reading = Ok says.models;
+  says = says.gives;
+  judged = sym (script_faulty asked texts at says);
+}
+run_refused_by asked texts Collides says = record {
+  reading = Ok says.models;
+  says = says.gives;
+  judged = sym (name_taken asked texts says);
+}
+run_refused_by asked texts texts_refused.Memory says = tt
+run_refused_by asked texts _ says = absurd says
+
+run_computed : (asked : Asked) (texts : List (List ℕ)) → FilesAreRead
+    → (v : Verdict) × JudgesModels (judges_names asked texts) (file_in texts) v
+run_computed asked texts readings =
+    models_computed (judges_names asked texts) (file_in texts) readings (λ models says.
+    (verdict_of_names asked (lines_asked asked models (scripts_in texts)), refl))
+
+pub run_judged : (asked : Asked) → IsJudged (run_means asked)
+run_judged asked = record {
+  one = λ texts v w of_v of_w.
+      models_once (judges_names asked texts) (λ models a b of_a of_b. of_a ∙ sym of_b)
+      (file_in texts) v w of_v of_w;
+  given = λ texts written outputs g. record {
+    reading = Ok g.accepted.models;
+    says = g.accepted.gives;
+    judged = sym (given_fine asked texts g.log g.transcripts g.accepted);
+  };
+  refused = λ texts r says. run_refused_by asked texts r says;
+  some = λ readings texts none.
+      computed_is_some (JudgesModels (judges_names asked texts) (file_in texts))
+      (run_computed asked texts readings) none;
+  computed = λ readings told texts. run_computed asked texts readings;
+}

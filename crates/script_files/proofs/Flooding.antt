@@ -9,24 +9,27 @@ use Rattle.vw_io.specs.declared.shelves.WriteRefused.{WriteRefused}
 use Rattle.vw_cell.specs.Places.{IsInBox, is_in_box}
 use Rattle.vw_cell.specs.Tests.{is_in_box_tells}
 use Rattle.vox_chunk.specs.declared.faults.VoxFault.{VoxFault}
+use Rattle.vox_chunk.specs.declared.faults.VoxFault.TheVariants as faults
 use Rattle.vox_read.specs.Contents.{Content, AreModels, IsModel}
 use Rattle.vox_read.specs.Files.{ReadsModels, RefusesFile}
 use Rattle.flood.specs.declared.models.FloodRefused.{FloodRefused}
 use Rattle.flood.specs.declared.models.FloodRefused.TheVariants as floods
-use Rattle.flood.specs.Models.{whole_box, has_start, RefusesFlood}
-use Rattle.script_files.specs.declared.tallies.Done.TheVariants.{Counted}
-use Rattle.script_files.specs.declared.refusals.CommandRefused.TheVariants.{Output}
+use Rattle.flood.specs.Models.{whole_box, has_start, FloodsModel, MayFillStore, RefusesFlood}
+use Rattle.node_words.specs.declared.shares.Full.{Full}
+use Rattle.script_files.specs.declared.refusals.CommandRefused.TheVariants.{Text, Output}
 use Rattle.script_files.specs.declared.refusals.OutputRefused.{OutputRefused}
 use Rattle.script_files.specs.declared.refusals.TextRefused.{TextRefused}
-use Rattle.script_files.specs.declared.refusals.TextRefused.TheVariants.{Vox, Script, Collides, NoScene, NoPlace, StoreFull, NoDag, Journal, Transcript, Memory}
-use Rattle.script_files.specs.declared.requests.Request.TheVariants.{Flood}
+use Rattle.script_files.specs.declared.refusals.TextRefused.TheVariants.{Vox, NoPlace, StoreFull, Memory}
 use Rattle.script_files.specs.Orders.{FloodAsked}
-use Rattle.script_files.specs.Floods.{flood_start, has_start_place, IsFar, FloodsText, RefusesFlooding, RefusesStart}
-use Rattle.script_files.specs.Meanings.{file_in, RefusesTexts}
+use Rattle.script_files.specs.Floods.{flood_start, has_start_place, IsFar, FloodsText, RefusesFlooding, RefusesStart, verdict_of_place, flood_means}
+use Rattle.script_files.specs.Meanings.{file_in}
 use Rattle.script_files.specs.Outcomes.{Outcome}
 use Rattle.script_files.specs.Refusals.{output_name, of_vox, of_flood}
-use Rattle.script_files.specs.Requests.{inputs_of}
-use Rattle.script_files.proofs.Refusing.{vox_refused}
+use Rattle.script_files.specs.Requests.{vox_input}
+use Rattle.script_files.specs.Judging.{AgreesWith, FilesAreRead, IsJudged}
+use Rattle.script_files.specs.Verdicts.{Verdict, Fine, HasNoPlace, JudgesModels}
+use Rattle.script_files.proofs.Accepting.{not_accepted}
+use Rattle.script_files.proofs.Following.{models_once, models_computed, computed_is_some}
 use Rattle.script_files.proofs.Writing.{stops_earlier}
 
 -- ---- places
@@ -70,49 +73,18 @@ flood_refused asked models floods.Memory says = tt
 pub models_refused : (asked : FloodAsked) (bytes : List ℕ) (models : List Content)
     (refused : TextRefused) → ReadsModels bytes (Ok models) → RefusesStart asked models refused
     → RefusesFlooding asked bytes refused
-models_refused asked bytes models (Vox fault) gives says = absurd says
-models_refused asked bytes models (Script at) gives says = absurd says
-models_refused asked bytes models Collides gives says = absurd says
-models_refused asked bytes models (NoScene fault) gives says = absurd says
 models_refused asked bytes models NoPlace gives says =
     record { models = models; gives = gives; lacks = says }
 models_refused asked bytes models (StoreFull full) gives says =
     record { models = models; gives = gives; fills = says }
-models_refused asked bytes models (Journal line) gives says = absurd says
-models_refused asked bytes models (Transcript at) gives says = absurd says
-models_refused asked bytes models (NoDag place) gives says = absurd says
 models_refused asked bytes models Memory gives says = tt
-
-texts_of : (r : TextRefused) (asked : FloodAsked) (bytes : List ℕ)
-    → RefusesTexts r (Flood asked) (bytes ∷ []) → RefusesFlooding asked bytes r
-texts_of (Vox fault) asked bytes says = says
-texts_of (Script at) asked bytes says = absurd says
-texts_of Collides asked bytes says = absurd says
-texts_of (NoScene fault) asked bytes says = absurd says
-texts_of NoPlace asked bytes says = says
-texts_of (StoreFull full) asked bytes says = says
-texts_of (NoDag place) asked bytes says = absurd says
-texts_of (Journal line) asked bytes says = absurd says
-texts_of (Transcript at) asked bytes says = absurd says
-texts_of Memory asked bytes says = tt
+models_refused asked bytes models _ gives says = absurd says
 
 pub file_refused : (fault : VoxFault) (asked : FloodAsked) (bytes : List ℕ)
     → RefusesFile fault bytes → RefusesFlooding asked bytes (of_vox fault)
-file_refused fault asked bytes says =
-    texts_of (of_vox fault) asked bytes (vox_refused fault (Flood asked) (bytes ∷ []) tt says)
-
-pub text_refused : (r : TextRefused) (asked : FloodAsked) (texts : List (List ℕ))
-    → RefusesFlooding asked (file_in texts) r → RefusesTexts r (Flood asked) texts
-text_refused (Vox fault) asked texts says = says
-text_refused (Script at) asked texts says = absurd says
-text_refused Collides asked texts says = absurd says
-text_refused (NoScene fault) asked texts says = absurd says
-text_refused NoPlace asked texts says = says
-text_refused (StoreFull full) asked texts says = says
-text_refused (NoDag place) asked texts says = absurd says
-text_refused (Journal line) asked texts says = absurd says
-text_refused (Transcript at) asked texts says = absurd says
-text_refused Memory asked texts says = tt
+file_refused faults.Memory asked bytes says = tt
+file_refused faults.NotVox asked bytes says = says
+file_refused _ asked bytes says = says
 
 -- ---- outcomes
 
@@ -120,18 +92,16 @@ abbrev pub region_output : FloodAsked → List ℕ → List Named
 region_output asked file = record { name = asked.out; bytes = file } ∷ []
 
 pub flooded : (asked : FloodAsked) (texts : List (List ℕ)) (number : ℕ) (file : List ℕ)
-    (old mid new : ShelfState) → AreTaken old.files (inputs_of (Flood asked)) texts
+    (old mid new : ShelfState) → AreTaken old.files (vox_input asked.file ∷ []) texts
     → FloodsText asked (file_in texts) number file → mid.files ≡ old.files
     → old.faults ≤ mid.faults → AreWritten (region_output asked file) mid.files new.files
     → mid.faults ≤ new.faults
-    → Outcome (Ok (record { done = Counted number; ended = None })) (Flood asked) old new
+    → Outcome (flood_means asked) (Ok number) old new
 flooded asked texts number file old mid new taken floods same grown whole more = record {
+  texts = texts;
+  taken = taken;
   outputs = region_output asked file;
-  comes = record {
-    texts = texts;
-    taken = taken;
-    gives = record { file = file; floods = floods; are = refl };
-  };
+  gives = record { file = file; floods = floods; are = refl };
   whole = subst (λ (f : Option Files). AreWritten (region_output asked file) f new.files) same
       whole;
   never_falls = omega (arith, grown, more);
@@ -139,21 +109,19 @@ flooded asked texts number file old mid new taken floods same grown whole more =
 
 pub flood_stopped : (asked : FloodAsked) (texts : List (List ℕ)) (number : ℕ) (file : List ℕ)
     (why : WriteRefused) (name : List ℕ) (r : OutputRefused) (old mid new : ShelfState)
-    → AreTaken old.files (inputs_of (Flood asked)) texts
+    → AreTaken old.files (vox_input asked.file ∷ []) texts
     → FloodsText asked (file_in texts) number file → mid.files ≡ old.files
     → old.faults ≤ mid.faults → r.why ≡ why → output_name r.name ≡ name
     → StopsWith why name (region_output asked file) mid.files new.files mid.faults new.faults
-    → Outcome (Err (Output r)) (Flood asked) old new
+    → Outcome (flood_means asked) (Err (Output r)) old new
 flood_stopped asked texts number file why name r old mid new taken floods same grown is_why is_name stops =
     record {
+      texts = texts;
+      taken = taken;
       outputs = region_output asked file;
-      begins = record {
-        texts = texts;
-        taken = taken;
-        begins = record {
-          number = number;
-          flooded = record { file = file; floods = floods; are = refl };
-        };
+      begun = record {
+        number = number;
+        flooded = record { file = file; floods = floods; are = refl };
       };
       stops =
           subst (λ (w : WriteRefused). StopsWith w (output_name r.name) (region_output asked file)
@@ -162,3 +130,73 @@ flood_stopped asked texts number file why name r old mid new taken floods same g
           old.faults new.faults) (sym is_name)
           (stops_earlier why name (region_output asked file) old mid new same grown stops));
     }
+
+pub not_flooded : (asked : FloodAsked) (texts : List (List ℕ)) (r : TextRefused)
+    (old new : ShelfState) → AreTaken old.files (vox_input asked.file ∷ []) texts
+    → RefusesFlooding asked (file_in texts) r → new.files ≡ old.files → old.faults ≤ new.faults
+    → Outcome (flood_means asked) (Err (Text r)) old new
+not_flooded asked texts r old new taken says files faults =
+    not_accepted (flood_means asked) r texts old new taken says files faults
+
+-- ---- the verdict
+
+abbrev judges_place : FloodAsked → List Content → Verdict → Type 0
+judges_place asked models v = v ≡ verdict_of_place asked models
+
+flooded_fine : (asked : FloodAsked) (models : List Content) (number : ℕ) (file : List ℕ)
+    → FloodsModel models asked.model (flood_start asked) number file
+    → verdict_of_place asked models ≡ Fine
+flooded_fine asked models number file f =
+    let is : is_in_box (whole_box f.model.size) (flood_start asked) ≡ true = f.inside in
+    rw (f.there, is) refl
+
+filled_fine : (asked : FloodAsked) (models : List Content) (full : Full)
+    → MayFillStore models asked.model (flood_start asked) full
+    → verdict_of_place asked models ≡ Fine
+filled_fine asked models full f =
+    let is : is_in_box (whole_box f.model.size) (flood_start asked) ≡ true = f.inside in
+    rw (f.there, is) refl
+
+place_lacks : (asked : FloodAsked) (models : List Content) → has_start_place asked models ≡ false
+    → verdict_of_place asked models ≡ HasNoPlace
+place_lacks asked models lacks = rw lacks refl
+
+flood_refused_by : (asked : FloodAsked) (bytes : List ℕ) (r : TextRefused)
+    → RefusesFlooding asked bytes r → AgreesWith (JudgesModels (judges_place asked) bytes) r
+flood_refused_by asked bytes (Vox fault) says =
+    record { reading = Err fault; says = says; judged = refl }
+flood_refused_by asked bytes NoPlace says = record {
+  reading = Ok says.models;
+  says = says.gives;
+  judged = sym (place_lacks asked says.models says.lacks);
+}
+flood_refused_by asked bytes (StoreFull full) says = record {
+  reading = Ok says.models;
+  says = says.gives;
+  judged = sym (filled_fine asked says.models full says.fills);
+}
+flood_refused_by asked bytes Memory says = tt
+flood_refused_by asked bytes _ says = absurd says
+
+flood_computed : (asked : FloodAsked) (bytes : List ℕ) → FilesAreRead
+    → (v : Verdict) × JudgesModels (judges_place asked) bytes v
+flood_computed asked bytes readings =
+    models_computed (judges_place asked) bytes readings
+    (λ models says. (verdict_of_place asked models, refl))
+
+pub flood_judged : (asked : FloodAsked) → IsJudged (flood_means asked)
+flood_judged asked = record {
+  one = λ texts v w of_v of_w.
+      models_once (judges_place asked) (λ models a b of_a of_b. of_a ∙ sym of_b) (file_in texts) v
+      w of_v of_w;
+  given = λ texts number outputs g. record {
+    reading = Ok g.floods.models;
+    says = g.floods.gives;
+    judged = sym (flooded_fine asked g.floods.models number g.file g.floods.floods);
+  };
+  refused = λ texts r says. flood_refused_by asked (file_in texts) r says;
+  some = λ readings texts none.
+      computed_is_some (JudgesModels (judges_place asked) (file_in texts))
+      (flood_computed asked (file_in texts) readings) none;
+  computed = λ readings told texts. flood_computed asked (file_in texts) readings;
+}

@@ -1,4 +1,6 @@
 pub mod Refusing
+pub mod Accepting
+pub mod Following
 pub mod Writing
 pub mod WorldSides
 pub mod SavedFiles
@@ -12,5 +14,5 @@ pub mod Auditing
 pub mod RunsAudited
 pub mod Dagging
 pub mod Looking
-pub use Rattle.dag_answers.proofs.JudgeLaws
 pub mod Told
+pub mod Judged

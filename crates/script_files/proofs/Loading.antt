@@ -1,5 +1,5 @@
 -- The run of a load, and what it leaves.
-use Rattle.std.proofs.Common.{false, inl, inr, ◌⊎◌, Some, ◌≡◌, ℕ, ◌*◌, ◌^◌, ◌≤◌, arith, Result, List, [], ◌∷◌, length, map, Vec, Global, Ok, Err, refl, ap, subst, ◌∙◌}
+use Rattle.std.proofs.Common.{false, inl, inr, ◌⊎◌, Some, ◌≡◌, ℕ, ◌*◌, ◌^◌, ◌≤◌, arith, Result, List, [], ◌∷◌, length, map, Vec, Global, Ok, Err, refl, sym, ap, subst, ◌∙◌}
 use Rattle.std.proofs.lemmas.Bool.{cases_order}
 use Rattle.std.proofs.lemmas.List.{length-map}
 use Rattle.std.proofs.Math.Nat.{pow-le-pow_right}
@@ -18,10 +18,13 @@ use Rattle.text_laws.specs.loads.ReadLaws.{scripts_are_read}
 use Rattle.text_laws.specs.regions.LastCounts.{region_counts}
 use Rattle.text_laws.specs.regions.Statements.{load_lines, own_counts, LoadsAreCounted}
 use Rattle.script_files.specs.declared.refusals.NumberedFault.{NumberedFault}
-use Rattle.script_files.specs.declared.tallies.Done.TheVariants.{Shown}
 use Rattle.script_files.specs.declared.tallies.LoadTally.{LoadTally}
 use Rattle.script_files.specs.declared.refusals.CommandRefused.TheVariants.{Output}
-use Rattle.script_files.specs.declared.requests.Request.TheVariants.{Demo}
+use Rattle.script_files.specs.declared.refusals.TextRefused.{TextRefused}
+use Rattle.script_files.specs.declared.refusals.TextRefused.TheVariants.{Memory}
+use Rattle.script_files.specs.Judging.{AgreesWith, IsJudged}
+use Rattle.script_files.specs.Meanings.{RefusesNothing}
+use Rattle.script_files.specs.Verdicts.{Fine}
 use Rattle.script_files.specs.Scripts.{AreFitScripts, scripts_of}
 use Rattle.world_run.specs.Closed.{Closed}
 use Rattle.conformance.specs.sessions.Kept.{kept_of}
@@ -32,7 +35,7 @@ use Rattle.script_files.specs.declared.tallies.Tally.{Tally}
 use Rattle.script_files.specs.declared.refusals.OutputRefused.{OutputRefused}
 use Rattle.script_files.specs.declared.scripts.Read.{Read}
 use Rattle.script_files.specs.Requests.{RunOutputs, texts_written}
-use Rattle.script_files.specs.Demos.{demo_plan, demo_asked, LoadBegan}
+use Rattle.script_files.specs.Demos.{demo_plan, demo_asked, demo_means, LoadBegan}
 use Rattle.script_files.specs.Outcomes.{Outcome}
 use Rattle.script_files.specs.Stages.{IsLoadRead, given_of, WroteRun, BeginsRun, StopsRun}
 use Rattle.script_files.proofs.Ending.{given_same, is_coloured, is_run, ends_world, texts_same, begins_same}
@@ -151,33 +154,30 @@ module _ (n : ℕ) (r : Read) (run : ScriptsRun) (old new : ShelfState) (counted
   pub demo_written : (tally : Tally) (closed : Closed) (counts : List ℕ)
       → counts ≡ region_counts run.transcripts.items
       → WroteRun demo_asked run tally closed old new
-      → Outcome (Ok (record { done = Shown (told_of n tally.records counts); ended = Some closed }))
-      (Demo n) old new
-  demo_written tally closed counts are w =
-      record {
-        outputs = texts_written demo_asked (given_of run) closed.history [];
-        comes = record {
-          texts = [];
-          taken = tt;
-          gives = record {
-            log = closed.history;
-            transcripts = run.transcripts.items;
-            lines = r.scripts.items;
-            read = read.read;
-            run = run_of_load closed.history w.closes.closes;
-            ends = ends_world demo_asked (load_model n ∷ []) r.scripts.items run ran_load plan_is
-                tint_is load_models kept fits_load closed w.closes;
-            number = refl;
-            records = w.tallied.records;
-            counts = are;
-            regions = λ all. are ∙ own closed.history w.closes.closes all;
-            are = texts_same demo_asked (load_model n ∷ []) r.scripts.items run ran_load plan_is
-                tint_is load_models kept fits_load closed.history w.closes.closes [];
-          };
-        };
-        whole = w.whole;
-        never_falls = w.never_falls;
-      }
+      → Outcome (demo_means n)
+      (Ok (record { tally = told_of n tally.records counts; ended = closed })) old new
+  demo_written tally closed counts are w = record {
+    texts = [];
+    taken = tt;
+    outputs = texts_written demo_asked (given_of run) closed.history [];
+    gives = record {
+      log = closed.history;
+      transcripts = run.transcripts.items;
+      lines = r.scripts.items;
+      read = read.read;
+      run = run_of_load closed.history w.closes.closes;
+      ends = ends_world demo_asked (load_model n ∷ []) r.scripts.items run ran_load plan_is
+          tint_is load_models kept fits_load closed w.closes;
+      number = refl;
+      records = w.tallied.records;
+      counts = are;
+      regions = λ all. are ∙ own closed.history w.closes.closes all;
+      are = texts_same demo_asked (load_model n ∷ []) r.scripts.items run ran_load plan_is
+          tint_is load_models kept fits_load closed.history w.closes.closes [];
+    };
+    whole = w.whole;
+    never_falls = w.never_falls;
+  }
 
   demo_begun : (outputs : List Named) → BeginsRun demo_asked run outputs → LoadBegan n outputs
   demo_begun outputs b = record {
@@ -193,10 +193,27 @@ module _ (n : ℕ) (r : Read) (run : ScriptsRun) (old new : ShelfState) (counted
   }
 
   pub demo_stopped : (refused : OutputRefused) → StopsRun demo_asked run refused old new
-      → Outcome (Err (Output refused)) (Demo n) old new
-  demo_stopped refused s =
-      record {
-        outputs = s.outputs;
-        begins = record { texts = []; taken = tt; begins = demo_begun s.outputs s.begins };
-        stops = s.stops;
-      }
+      → Outcome (demo_means n) (Err (Output refused)) old new
+  demo_stopped refused s = record {
+    texts = [];
+    taken = tt;
+    outputs = s.outputs;
+    begun = demo_begun s.outputs s.begins;
+    stops = s.stops;
+  }
+
+-- ---- the verdict
+
+demo_refused_by : (texts : List (List ℕ)) (r : TextRefused) → RefusesNothing texts r
+    → AgreesWith (λ v. v ≡ Fine) r
+demo_refused_by texts Memory says = tt
+demo_refused_by texts _ says = absurd says
+
+pub demo_judged : (n : ℕ) → IsJudged (demo_means n)
+demo_judged n = record {
+  one = λ texts v w of_v of_w. of_v ∙ sym of_w;
+  given = λ texts written outputs g. refl;
+  refused = λ texts r says. demo_refused_by texts r says;
+  some = λ readings texts none. none Fine refl;
+  computed = λ readings told texts. (Fine, refl);
+}

@@ -1,57 +1,45 @@
 -- What a scene gives, as an outcome of the whole command.
-use Rattle.std.proofs.Common.{◌≡◌, ℕ, ◌+◌, ◌^◌, ◌≤◌, List, [], ◌∷◌, Option, None, Ok, Err, refl, sym, ap, subst, ◌∙◌, arith}
+use Rattle.std.proofs.Common.{◌≡◌, ℕ, ◌+◌, ◌^◌, ◌≤◌, List, [], ◌∷◌, Option, Some, None, Ok, Err, refl, sym, ap, subst, ◌∙◌, arith}
 use Rattle.vw_io.specs.Outside.{Files, ShelfState}
 use Rattle.vw_io.specs.Inputs.{AreTaken}
 use Rattle.vw_io.specs.Outputs.{Named, AreWritten, StopsWith}
 use Rattle.vw_io.specs.declared.shelves.WriteRefused.{WriteRefused}
 use Rattle.vox_chunk.specs.declared.faults.VoxFault.{VoxFault}
+use Rattle.vox_chunk.specs.declared.faults.VoxFault.TheVariants as vox_faults
 use Rattle.vox_read.specs.Contents.{Content, AreModels}
 use Rattle.vox_read.specs.Files.{ReadsModels, RefusesFile}
 use Rattle.vox_write.specs.Written.{chunks_length, models_file}
 use Rattle.vox_scene.specs.declared.faults.SceneFault.{SceneFault}
 use Rattle.vox_scene.specs.declared.faults.SceneFault.TheVariants as faults
+use Rattle.vox_scene.specs.Judged.{IsPlaceable}
+use Rattle.vox_scene.proofs.Judging.{judged, judged_once}
 use Rattle.vox_scene.specs.Scenes.{SceneSeen, HasScene, RefusesScene}
 use Rattle.text_laws.specs.scenes.Building.{BuildsScene}
 use Rattle.text_laws.proofs.OfScenes.Built.{built}
-use Rattle.script_files.specs.declared.tallies.Done.TheVariants.{Placed}
 use Rattle.script_files.specs.declared.tallies.SceneTally.{SceneTally}
-use Rattle.script_files.specs.declared.refusals.CommandRefused.TheVariants.{Output}
+use Rattle.script_files.specs.declared.refusals.CommandRefused.TheVariants.{Text, Output}
 use Rattle.script_files.specs.declared.refusals.OutputRefused.{OutputRefused}
 use Rattle.script_files.specs.declared.refusals.TextRefused.{TextRefused}
-use Rattle.script_files.specs.declared.refusals.TextRefused.TheVariants.{Vox, Script, Collides, NoScene, NoPlace, StoreFull, NoDag, Journal, Transcript, Memory}
-use Rattle.script_files.specs.declared.requests.Request.TheVariants.{Scene}
+use Rattle.script_files.specs.declared.refusals.TextRefused.TheVariants.{Vox, NoScene, Memory}
 use Rattle.script_files.specs.Orders.{SceneAsked}
-use Rattle.script_files.specs.Scenes.{TellsScene, PlacesText, RefusesPlacing}
-use Rattle.script_files.specs.Meanings.{file_in, RefusesTexts}
+use Rattle.script_files.specs.Scenes.{TellsScene, PlacesText, RefusesPlacing, JudgesPlaces, verdict_of_scene, scene_means}
+use Rattle.script_files.specs.Meanings.{file_in}
 use Rattle.script_files.specs.Outcomes.{Outcome}
 use Rattle.script_files.specs.Refusals.{output_name, of_vox, of_scene}
-use Rattle.script_files.specs.Requests.{inputs_of}
-use Rattle.script_files.proofs.Refusing.{vox_refused}
+use Rattle.script_files.specs.Requests.{vox_input}
+use Rattle.script_files.specs.Judging.{AgreesWith, FilesAreRead, IsJudged}
+use Rattle.script_files.specs.Verdicts.{Verdict, JudgesModels}
+use Rattle.script_files.proofs.Accepting.{not_accepted}
+use Rattle.script_files.proofs.Following.{models_once, models_computed, computed_is_some}
 use Rattle.script_files.proofs.Writing.{stops_earlier}
 
 -- ---- refusals
 
-texts_of : (r : TextRefused) (asked : SceneAsked) (bytes : List ℕ)
-    → RefusesTexts r (Scene asked) (bytes ∷ []) → RefusesPlacing bytes r
-texts_of (Vox fault) asked bytes says = says
-texts_of (Script at) asked bytes says = absurd says
-texts_of Collides asked bytes says = absurd says
-texts_of (NoScene fault) asked bytes says = says
-texts_of NoPlace asked bytes says = absurd says
-texts_of (StoreFull full) asked bytes says = absurd says
-texts_of (NoDag place) asked bytes says = absurd says
-texts_of (Journal line) asked bytes says = absurd says
-texts_of (Transcript at) asked bytes says = absurd says
-texts_of Memory asked bytes says = tt
-
-no_names : SceneAsked
-no_names = record { file = []; out = []; script = [] }
-
 pub vox_refused_at : (fault : VoxFault) (bytes : List ℕ) → RefusesFile fault bytes
     → RefusesPlacing bytes (of_vox fault)
-vox_refused_at fault bytes says =
-    texts_of (of_vox fault) no_names bytes
-    (vox_refused fault (Scene no_names) (bytes ∷ []) tt says)
+vox_refused_at vox_faults.Memory bytes says = tt
+vox_refused_at vox_faults.NotVox bytes says = says
+vox_refused_at _ bytes says = says
 
 pub scene_refused : (fault : SceneFault) (bytes : List ℕ) (models : List Content)
     → ReadsModels bytes (Ok models) → RefusesScene fault bytes
@@ -75,19 +63,6 @@ scene_refused (faults.TooMany at) bytes models gives says =
 scene_refused faults.TooLarge bytes models gives says =
     record { models = models; gives = gives; first = says }
 scene_refused faults.Memory bytes models gives says = tt
-
-pub placing_refused : (r : TextRefused) (asked : SceneAsked) (texts : List (List ℕ))
-    → RefusesPlacing (file_in texts) r → RefusesTexts r (Scene asked) texts
-placing_refused (Vox fault) asked texts says = says
-placing_refused (Script at) asked texts says = absurd says
-placing_refused Collides asked texts says = absurd says
-placing_refused (NoScene fault) asked texts says = says
-placing_refused NoPlace asked texts says = absurd says
-placing_refused (StoreFull full) asked texts says = absurd says
-placing_refused (NoDag place) asked texts says = absurd says
-placing_refused (Journal line) asked texts says = absurd says
-placing_refused (Transcript at) asked texts says = absurd says
-placing_refused Memory asked texts says = tt
 
 -- ---- the scene of a text
 
@@ -113,19 +88,17 @@ scene_outputs asked models script = record { name = asked.out; bytes = models }
 
 pub scene_written : (asked : SceneAsked) (texts : List (List ℕ)) (told : SceneTally)
     (models script : List ℕ) (old mid new : ShelfState)
-    → AreTaken old.files (inputs_of (Scene asked)) texts
+    → AreTaken old.files (vox_input asked.file ∷ []) texts
     → PlacesText (file_in texts) told models script → mid.files ≡ old.files
     → old.faults ≤ mid.faults
     → AreWritten (scene_outputs asked models script) mid.files new.files → mid.faults ≤ new.faults
-    → Outcome (Ok (record { done = Placed told; ended = None })) (Scene asked) old new
+    → Outcome (scene_means asked) (Ok told) old new
 scene_written asked texts told models script old mid new taken places same grown whole more =
     record {
+      texts = texts;
+      taken = taken;
       outputs = scene_outputs asked models script;
-      comes = record {
-        texts = texts;
-        taken = taken;
-        gives = record { models = models; script = script; places = places; are = refl };
-      };
+      gives = record { models = models; script = script; places = places; are = refl };
       whole = subst
           (λ (f : Option Files). AreWritten (scene_outputs asked models script) f new.files)
           same whole;
@@ -134,22 +107,20 @@ scene_written asked texts told models script old mid new taken places same grown
 
 pub scene_stopped : (asked : SceneAsked) (texts : List (List ℕ)) (told : SceneTally)
     (models script : List ℕ) (why : WriteRefused) (name : List ℕ) (r : OutputRefused)
-    (old mid new : ShelfState) → AreTaken old.files (inputs_of (Scene asked)) texts
+    (old mid new : ShelfState) → AreTaken old.files (vox_input asked.file ∷ []) texts
     → PlacesText (file_in texts) told models script → mid.files ≡ old.files
     → old.faults ≤ mid.faults → r.why ≡ why → output_name r.name ≡ name
     → StopsWith why name (scene_outputs asked models script) mid.files new.files mid.faults
     new.faults
-    → Outcome (Err (Output r)) (Scene asked) old new
+    → Outcome (scene_means asked) (Err (Output r)) old new
 scene_stopped asked texts told models script why name r old mid new taken places same grown is_why is_name stops =
     record {
+      texts = texts;
+      taken = taken;
       outputs = scene_outputs asked models script;
-      begins = record {
-        texts = texts;
-        taken = taken;
-        begins = record {
-          told = told;
-          placed = record { models = models; script = script; places = places; are = refl };
-        };
+      begun = record {
+        told = told;
+        placed = record { models = models; script = script; places = places; are = refl };
       };
       stops =
           subst (λ (w : WriteRefused). StopsWith w (output_name r.name)
@@ -160,3 +131,67 @@ scene_stopped asked texts told models script why name r old mid new taken places
           (stops_earlier why name
           (scene_outputs asked models script) old mid new same grown stops));
     }
+
+pub not_placed : (asked : SceneAsked) (texts : List (List ℕ)) (r : TextRefused)
+    (old new : ShelfState) → AreTaken old.files (vox_input asked.file ∷ []) texts
+    → RefusesPlacing (file_in texts) r → new.files ≡ old.files → old.faults ≤ new.faults
+    → Outcome (scene_means asked) (Err (Text r)) old new
+not_placed asked texts r old new taken says files faults =
+    not_accepted (scene_means asked) r texts old new taken says files faults
+
+-- ---- the verdict
+
+abbrev judges_scene : List ℕ → List Content → Verdict → Type 0
+judges_scene bytes models v = JudgesPlaces bytes v
+
+-- a scene that there is has no fault
+placeable : (bytes : List ℕ) (scene : SceneSeen) → HasScene bytes scene → IsPlaceable bytes
+placeable bytes scene has = record {
+  stands = has.stands;
+  has = has.has;
+  least = has.is.least;
+  is_least = has.is.is_least;
+  small = has.is.small;
+}
+
+places_once : (bytes : List ℕ) (v w : Verdict) → JudgesPlaces bytes v → JudgesPlaces bytes w
+    → v ≡ w
+places_once bytes v w of_v of_w =
+    of_v.2 ∙ ap verdict_of_scene (judged_once bytes of_v.0 of_w.0 of_v.1 of_w.1) ∙ sym of_w.2
+
+scene_refused_by : (bytes : List ℕ) (r : TextRefused) → RefusesPlacing bytes r
+    → AgreesWith (JudgesModels (judges_scene bytes) bytes) r
+scene_refused_by bytes (Vox fault) says =
+    record { reading = Err fault; says = says; judged = refl }
+scene_refused_by bytes (NoScene fault) says = record {
+  reading = Ok says.models;
+  says = says.gives;
+  judged = (Some fault, says.first, refl);
+}
+scene_refused_by bytes Memory says = tt
+scene_refused_by bytes _ says = absurd says
+
+scene_computed : (bytes : List ℕ) → FilesAreRead
+    → (v : Verdict) × JudgesModels (judges_scene bytes) bytes v
+scene_computed bytes readings =
+    models_computed (judges_scene bytes) bytes readings (λ models says.
+    let found = judged bytes models says in
+    (verdict_of_scene found.0, (found.0, found.1, refl)))
+
+pub scene_judged : (asked : SceneAsked) → IsJudged (scene_means asked)
+scene_judged asked = record {
+  one = λ texts v w of_v of_w.
+      models_once (judges_scene (file_in texts))
+      (λ models a b of_a of_b. places_once (file_in texts) a b of_a of_b) (file_in texts) v w of_v
+      of_w;
+  given = λ texts told outputs g. record {
+    reading = Ok g.places.has.has.models;
+    says = g.places.has.has.has;
+    judged = (None, placeable (file_in texts) g.places.scene g.places.has, refl);
+  };
+  refused = λ texts r says. scene_refused_by (file_in texts) r says;
+  some = λ readings texts none.
+      computed_is_some (JudgesModels (judges_scene (file_in texts)) (file_in texts))
+      (scene_computed (file_in texts) readings) none;
+  computed = λ readings told texts. scene_computed (file_in texts) readings;
+}

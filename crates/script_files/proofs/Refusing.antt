@@ -13,56 +13,18 @@ use Rattle.script.specs.declared.faults.ScriptKind.TheVariants.{Word, Number, Ra
 use Rattle.script.specs.Scripts as scripts
 use Rattle.script_files.specs.declared.refusals.TextRefused.{TextRefused}
 use Rattle.script_files.specs.declared.refusals.TextRefused.TheVariants as texts
-use Rattle.script_files.specs.declared.requests.Request.{Request}
-use Rattle.script_files.specs.declared.requests.Request.TheVariants.{Count, Run, Demo, Flood, Scene, Dag, Look, Audit}
 use Rattle.script_files.specs.Orders.{Asked, asked_side}
-use Rattle.script_files.specs.Meanings.{file_in, scripts_in, RefusesVox, RefusesTexts}
+use Rattle.script_files.specs.Counts.{RefusesVox}
+use Rattle.script_files.specs.Meanings.{file_in, scripts_in}
+use Rattle.script_files.specs.Runs.{RefusesRun}
 use Rattle.script_files.specs.Refusals.{of_vox, of_kind, of_fault, RefusesScripts}
 use Rattle.script_files.specs.Scripts.{in_script, lines_asked, scripts_of}
 
--- the request reads a VOX file
-abbrev pub ReadsVox : Request → Type 0
-ReadsVox (Count file) = ⊤
-ReadsVox (Run asked) = ⊤
-ReadsVox (Demo n) = ⊥
-ReadsVox (Flood asked) = ⊤
-ReadsVox (Scene asked) = ⊤
-ReadsVox (Dag asked) = ⊤
-ReadsVox (Look asked) = ⊥
-ReadsVox (Audit asked) = ⊤
-
-file_refused : (fault : VoxFault) (a : Request) (texts : List (List ℕ)) → ReadsVox a
-    → ReadsModels (file_in texts) (Err fault) → RefusesVox a texts fault
-file_refused fault (Count file) texts reads says = says
-file_refused fault (Run asked) texts reads says = says
-file_refused fault (Demo n) texts reads says = absurd reads
-file_refused fault (Flood asked) texts reads says = says
-file_refused fault (Scene asked) texts reads says = says
-file_refused fault (Dag asked) texts reads says = says
-file_refused fault (Look asked) texts reads says = absurd reads
-file_refused fault (Audit asked) texts reads says = says
-
-pub vox_refused : (fault : VoxFault) (a : Request) (texts : List (List ℕ)) → ReadsVox a
-    → files.RefusesFile fault (file_in texts) → RefusesTexts (of_vox fault) a texts
-vox_refused faults.NotVox a texts reads refuses = file_refused faults.NotVox a texts reads refuses
-vox_refused (faults.Version version) a texts reads refuses =
-    file_refused (faults.Version version) a texts reads refuses
-vox_refused faults.NoMain a texts reads refuses = file_refused faults.NoMain a texts reads refuses
-vox_refused (faults.Truncated at) a texts reads refuses =
-    file_refused (faults.Truncated at) a texts reads refuses
-vox_refused (faults.ShortSize at) a texts reads refuses =
-    file_refused (faults.ShortSize at) a texts reads refuses
-vox_refused (faults.SizeRange at) a texts reads refuses =
-    file_refused (faults.SizeRange at) a texts reads refuses
-vox_refused (faults.XyziWithoutSize at) a texts reads refuses =
-    file_refused (faults.XyziWithoutSize at) a texts reads refuses
-vox_refused (faults.ShortXyzi at) a texts reads refuses =
-    file_refused (faults.ShortXyzi at) a texts reads refuses
-vox_refused (faults.VoxelOutside at) a texts reads refuses =
-    file_refused (faults.VoxelOutside at) a texts reads refuses
-vox_refused (faults.TooManyModels at) a texts reads refuses =
-    file_refused (faults.TooManyModels at) a texts reads refuses
-vox_refused faults.Memory a texts reads refuses = tt
+pub vox_refused : (fault : VoxFault) (bytes : List ℕ) → files.RefusesFile fault bytes
+    → RefusesVox bytes (of_vox fault)
+vox_refused faults.Memory bytes refuses = tt
+vox_refused faults.NotVox bytes refuses = refuses
+vox_refused _ bytes refuses = refuses
 
 -- one script's fault
 refused_at : (kind : ScriptKind) (number : ℕ) (fault : ScriptFault)
@@ -72,14 +34,7 @@ refused_at : (kind : ScriptKind) (number : ℕ) (fault : ScriptFault)
     (in_script number read)
 refused_at Memory number fault read is refuses = tt
 refused_at Word number fault read is refuses = (rw is tt, ap (in_script number) refuses)
-refused_at Number number fault read is refuses = (rw is tt, ap (in_script number) refuses)
-refused_at Range number fault read is refuses = (rw is tt, ap (in_script number) refuses)
-refused_at Missing number fault read is refuses = (rw is tt, ap (in_script number) refuses)
-refused_at Extra number fault read is refuses = (rw is tt, ap (in_script number) refuses)
-refused_at NoModel number fault read is refuses = (rw is tt, ap (in_script number) refuses)
-refused_at TooManyLines number fault read is refuses = (rw is tt, ap (in_script number) refuses)
-refused_at TooManySaves number fault read is refuses = (rw is tt, ap (in_script number) refuses)
-refused_at NotAscii number fault read is refuses = (rw is tt, ap (in_script number) refuses)
+refused_at _ number fault read is refuses = (rw is tt, ap (in_script number) refuses)
 
 pub script_refused : (number : ℕ) (fault : ScriptFault)
     (read : Result (List ScriptLine) ScriptFault) → scripts.RefusesWords fault read
@@ -90,35 +45,34 @@ script_refused number fault read refuses = refused_at fault.kind number fault re
 pub scripts_refused : (r : TextRefused) (asked : Asked) (models : List Content)
     (texts : List (List ℕ)) → ReadsModels (file_in texts) (Ok models)
     → RefusesScripts r (lines_asked asked models (scripts_in texts))
-    → RefusesTexts r (Run asked) texts
+    → RefusesRun asked texts r
 scripts_refused (texts.Script at) asked models texts gives refuses =
     record { models = models; gives = gives; is_of_text = refuses.0; first = refuses.1 }
 scripts_refused texts.Memory asked models texts gives refuses = tt
-scripts_refused (texts.Vox fault) asked models texts gives refuses = absurd refuses
-scripts_refused texts.Collides asked models texts gives refuses = absurd refuses
-scripts_refused (texts.NoScene fault) asked models texts gives refuses = absurd refuses
-scripts_refused texts.NoPlace asked models texts gives refuses = absurd refuses
-scripts_refused (texts.StoreFull full) asked models texts gives refuses = absurd refuses
-scripts_refused (texts.NoDag place) asked models texts gives refuses = absurd refuses
-scripts_refused (texts.Journal line) asked models texts gives refuses = absurd refuses
-scripts_refused (texts.Transcript at) asked models texts gives refuses = absurd refuses
+scripts_refused _ asked models texts gives refuses = absurd refuses
 
 -- the same of scripts that were read by the side of the run's world
 pub scripts_refused_by : (r : TextRefused) (asked : Asked) (side : ℕ) (models : List Content)
     (texts : List (List ℕ)) → side ≡ asked_side asked → ReadsModels (file_in texts) (Ok models)
     → RefusesScripts r (scripts_of asked.tint side models (scripts_in texts))
-    → RefusesTexts r (Run asked) texts
+    → RefusesRun asked texts r
 scripts_refused_by r asked side models texts same gives refuses =
     scripts_refused r asked models texts gives
     (subst (λ (s : ℕ). RefusesScripts r (scripts_of asked.tint s models (scripts_in texts))) same
     refuses)
 
 -- a fault of the first text is the VOX file's
+file_refused : (fault : VoxFault) (asked : Asked) (texts : List (List ℕ))
+    → files.RefusesFile fault (file_in texts) → RefusesRun asked texts (of_vox fault)
+file_refused faults.Memory asked texts refuses = tt
+file_refused faults.NotVox asked texts refuses = refuses
+file_refused _ asked texts refuses = refuses
+
 pub first_refused : (fault : VoxFault) (asked : Asked) (texts : List (List ℕ)) (file : List ℕ)
     → file_in texts ≡ file → files.RefusesFile fault file
-    → RefusesTexts (of_vox fault) (Run asked) texts
+    → RefusesRun asked texts (of_vox fault)
 first_refused fault asked texts file is refuses =
-    vox_refused fault (Run asked) texts tt (subst (files.RefusesFile fault) (sym is) refuses)
+    file_refused fault asked texts (subst (files.RefusesFile fault) (sym is) refuses)
 
 pub first_text : (texts : List (List ℕ)) (d : List ℕ) → 0 < length texts
     → file_in texts ≡ get_or texts 0 d

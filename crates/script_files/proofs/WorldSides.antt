@@ -8,7 +8,8 @@ use Rattle.vox_read.specs.Contents.{Content}
 use Rattle.vox_read.specs.Files.{ReadsModels}
 use Rattle.history_model.specs.Logs.{Log, store_exponent}
 use Rattle.script.specs.declared.commands.ScriptLine.{ScriptLine}
-use Rattle.script_files.specs.Meanings.{AreApart, file_in, scripts_in}
+use Rattle.script_files.specs.Meanings.{file_in, scripts_in}
+use Rattle.script_files.specs.Runs.{AreApart}
 use Rattle.script_files.specs.Orders.{Asked, asked_side, world_exponent}
 use Rattle.script_files.specs.Refusals.{RefusesScripts}
 use Rattle.script_files.specs.Scripts.{AreFitScripts, lines_told, scripts_of}

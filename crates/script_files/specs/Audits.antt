@@ -1,5 +1,5 @@
 -- What the command `audit` answers, or is refused for.
-use Rattle.std.specs.Prelude.{◌≡◌, ℕ, ◌↔◌, List, [], ◌∷◌, Bool, IsTrue, All, Option, map, get_or, take, drop, Ok, Err, ⊤}
+use Rattle.std.specs.Prelude.{◌≡◌, ℕ, ◌↔◌, List, [], ◌∷◌, Bool, true, IsTrue, All, Option, Some, None, Result, length, map, get_or, take, drop, Ok, Err, ⊤}
 use Rattle.vw_io.specs.Outputs.{Named}
 use Rattle.vox_read.specs.Contents.{Content}
 use Rattle.vox_read.specs.Files.{ReadsModels}
@@ -22,7 +22,11 @@ use Rattle.script_files.specs.declared.refusals.NumberedFault.{NumberedFault}
 use Rattle.script_files.specs.declared.refusals.TranscriptLine.{TranscriptLine}
 use Rattle.script_files.specs.declared.refusals.TextRefused.{TextRefused}
 use Rattle.script_files.specs.declared.refusals.TextRefused.TheVariants.{Vox, Journal, Script, Transcript, StoreFull, Memory}
+use Rattle.script_files.specs.Meanings.{Meaning, BeginsNothing, file_in}
+use Rattle.script_files.specs.Orders.{AuditAsked}
+use Rattle.script_files.specs.Requests.{audit_inputs}
 use Rattle.script_files.specs.Scripts.{lines_told}
+use Rattle.script_files.specs.Verdicts.{Verdict, Fine, HasScriptFault, HasJournalFault, HasTranscriptFault, JudgesModels}
 
 -- the texts behind that of the VOX file: the journal's, those of the scripts, and those of their
 -- transcripts
@@ -38,6 +42,10 @@ audit_texts n texts = record {
   scripts = take n (drop 2 texts);
   transcripts = drop n (drop 2 texts);
 }
+
+-- those of an audit, behind that of the VOX file
+abbrev pub texts_audited : AuditAsked → List (List ℕ) → AuditTexts
+texts_audited asked texts = audit_texts (length asked.scripts) texts
 
 -- ---- what they say
 
@@ -131,3 +139,45 @@ RefusesAuditing file t (Transcript at) = LacksTranscript file t at
 RefusesAuditing file t (StoreFull full) = FillsAudit file t full
 RefusesAuditing file t Memory = ⊤
 RefusesAuditing file t _ = ⊥
+
+-- ---- what is judged: whether the journal is one, then what the scripts say in its history's
+-- world, then whether the transcripts are some
+
+-- the text is that of this history, or of none
+abbrev pub FindsLog : List ℕ → Option Log → Type 0
+FindsLog text None = (log : Log) → IsJournalOf text log → ⊥
+FindsLog text (Some log) = IsJournalOf text log
+
+-- the texts are those of these answers, or of none
+abbrev pub FindsAnswers : List (List ℕ) → Option (List (List LineAnswer)) → Type 0
+FindsAnswers texts None = (said : List (List LineAnswer)) → AreTranscriptsOf texts said → ⊥
+FindsAnswers texts (Some said) = AreTranscriptsOf texts said
+
+abbrev pub verdict_of_answers : Option (List (List LineAnswer)) → Verdict
+verdict_of_answers None = HasTranscriptFault
+verdict_of_answers (Some said) = Fine
+
+abbrev pub JudgesSaid : List (List ℕ) → Result (List (List ScriptLine)) NumberedFault → Verdict
+    → Type 0
+JudgesSaid texts (Err at) v = v ≡ HasScriptFault at
+JudgesSaid texts (Ok lines) v =
+    (said : Option (List (List LineAnswer))) × FindsAnswers texts said
+    × (v ≡ verdict_of_answers said)
+
+abbrev pub JudgesLog : AuditTexts → List Content → Option Log → Verdict → Type 0
+JudgesLog t models None v = v ≡ HasJournalFault
+JudgesLog t models (Some log) v = JudgesSaid t.transcripts (lines_told log models t.scripts) v
+
+abbrev pub JudgesLeft : AuditTexts → List Content → Verdict → Type 0
+JudgesLeft t models v = (log : Option Log) × FindsLog t.journal log × JudgesLog t models log v
+
+abbrev pub audit_means : AuditAsked → Meaning Bool
+audit_means asked = record {
+  inputs = audit_inputs asked;
+  gives = λ texts answer outputs.
+      Audited asked.buckets asked.keep (file_in texts) (texts_audited asked texts) answer outputs;
+  begins = BeginsNothing;
+  refuses = λ texts r. RefusesAuditing (file_in texts) (texts_audited asked texts) r;
+  judges = λ texts v. JudgesModels (JudgesLeft (texts_audited asked texts)) (file_in texts) v;
+  journal = true;
+}

@@ -1,5 +1,6 @@
 -- What the command `dag` writes, or is refused for.
-use Rattle.std.specs.Prelude.{◌≡◌, ◌⊎◌, ℕ, ◌+◌, ◌^◌, List, [], ◌∷◌, get_or, Ok, Err, ⊤}
+use Rattle.std.specs.Prelude.{◌≡◌, ◌⊎◌, ℕ, ◌+◌, ◌^◌, List, [], ◌∷◌, true, get_or, Option, Some, None, Ok, Err, ⊤}
+use Rattle.vw_io.specs.Inputs.{WantedInput}
 use Rattle.vw_io.specs.Outputs.{Named}
 use Rattle.vox_read.specs.Contents.{Content}
 use Rattle.vox_read.specs.Files.{ReadsModels}
@@ -13,7 +14,10 @@ use Rattle.script_files.specs.declared.refusals.TextRefused.{TextRefused}
 use Rattle.script_files.specs.declared.refusals.TextRefused.TheVariants.{Vox, Journal, StoreFull, Memory}
 use Rattle.history_model.specs.Refusals.{RefusesJournal}
 use Rattle.script_files.specs.Audits.{IsJournalOf}
+use Rattle.script_files.specs.Meanings.{Meaning, file_in}
 use Rattle.script_files.specs.Orders.{DagAsked}
+use Rattle.script_files.specs.Requests.{vox_input, script_input}
+use Rattle.script_files.specs.Verdicts.{Verdict, Fine, HasJournalFault, JudgesModels}
 
 -- the journal's text comes behind that of the VOX file
 abbrev pub journal_in : List (List ℕ) → List ℕ
@@ -74,3 +78,34 @@ RefusesDagging file journal (Journal line) = LacksHistory file journal line
 RefusesDagging file journal (StoreFull full) = FillsReplay file journal full
 RefusesDagging file journal Memory = ⊤
 RefusesDagging file journal _ = ⊥
+
+-- ---- what is judged
+
+-- the text is that of this legal history, or of none
+abbrev pub FindsLegalLog : List Content → List ℕ → Option Log → Type 0
+FindsLegalLog models text None =
+    (log : Log) → IsJournalOf text log → IsLegal (2 ^ log.side) models log → ⊥
+FindsLegalLog models text (Some log) =
+    IsJournalOf text log × IsLegal (2 ^ log.side) models log
+
+abbrev pub verdict_of_legal : Option Log → Verdict
+verdict_of_legal None = HasJournalFault
+verdict_of_legal (Some log) = Fine
+
+abbrev pub JudgesLegal : List ℕ → List Content → Verdict → Type 0
+JudgesLegal text models v =
+    (log : Option Log) × FindsLegalLog models text log × (v ≡ verdict_of_legal log)
+
+-- what is read, in order
+abbrev pub dag_inputs : DagAsked → List WantedInput
+dag_inputs asked = vox_input asked.file ∷ script_input asked.journal ∷ []
+
+abbrev pub dag_means : DagAsked → Meaning (Unit {0})
+dag_means asked = record {
+  inputs = dag_inputs asked;
+  gives = λ texts none outputs. DagWritten asked (file_in texts) (journal_in texts) outputs;
+  begins = λ texts outputs. DagWritten asked (file_in texts) (journal_in texts) outputs;
+  refuses = λ texts r. RefusesDagging (file_in texts) (journal_in texts) r;
+  judges = λ texts v. JudgesModels (JudgesLegal (journal_in texts)) (file_in texts) v;
+  journal = true;
+}

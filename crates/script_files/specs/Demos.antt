@@ -12,10 +12,13 @@ use Rattle.gen_load.specs.Loads.{load_model, load_scripts}
 use Rattle.text_laws.specs.regions.LastCounts.{region_counts}
 use Rattle.text_laws.specs.regions.Statements.{own_counts}
 use Rattle.script_files.specs.declared.tallies.LoadTally.{LoadTally}
+use Rattle.script_files.specs.declared.tallies.LoadWritten.{LoadWritten}
+use Rattle.script_files.specs.Meanings.{Meaning, RefusesNothing}
 use Rattle.script_files.specs.Orders.{Asked}
 use Rattle.script_files.specs.Requests.{given_by, texts_written}
 use Rattle.script_files.specs.Reports.{BeginsTexts}
 use Rattle.script_files.specs.Scripts.{scripts_of}
+use Rattle.script_files.specs.Verdicts.{Fine}
 
 -- the usual plan of side 256
 abbrev pub demo_plan : Layout
@@ -62,3 +65,14 @@ pub record LoadBegan (n : ℕ) (outputs : List Named) : Type 0 where
   pub coloured : log.coloured ≡ false
   pub begins : BeginsTexts demo_asked (given_by false (load_model n ∷ []) lines log transcripts) log
       outputs
+
+-- nothing is read, and nothing can be wrong
+abbrev pub demo_means : ℕ → Meaning LoadWritten
+demo_means n = record {
+  inputs = [];
+  gives = λ texts written outputs. LoadRan n written.tally written.ended outputs;
+  begins = λ texts outputs. LoadBegan n outputs;
+  refuses = RefusesNothing;
+  judges = λ texts v. v ≡ Fine;
+  journal = false;
+}

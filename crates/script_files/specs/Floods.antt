@@ -1,5 +1,5 @@
 -- What a flood tells and writes, or is refused for.
-use Rattle.std.specs.Prelude.{◌≡◌, ℕ, ◌≤◌, ◌⊎◌, List, [], ◌∷◌, Bool, false, Ok, Err, ⊤}
+use Rattle.std.specs.Prelude.{◌≡◌, ℕ, ◌≤◌, ◌⊎◌, List, [], ◌∷◌, Bool, false, if◌then◌else◌, Ok, Err, ⊤}
 use Rattle.vw_io.specs.Outputs.{Named}
 use Rattle.vw_cell.specs.declared.cells.Cell.{Cell}
 use Rattle.vw_cell.specs.Counts.{cell_at}
@@ -9,7 +9,10 @@ use Rattle.node_words.specs.declared.shares.Full.{Full}
 use Rattle.flood.specs.Models.{has_place, FloodsModel, MayFillStore}
 use Rattle.script_files.specs.declared.refusals.TextRefused.{TextRefused}
 use Rattle.script_files.specs.declared.refusals.TextRefused.TheVariants.{Vox, NoPlace, StoreFull, Memory}
+use Rattle.script_files.specs.Meanings.{Meaning, file_in}
 use Rattle.script_files.specs.Orders.{FloodAsked}
+use Rattle.script_files.specs.Requests.{vox_input}
+use Rattle.script_files.specs.Verdicts.{Verdict, Fine, HasNoPlace, JudgesModels}
 
 -- the place from which is flooded
 abbrev pub flood_start : FloodAsked → Cell
@@ -68,3 +71,18 @@ RefusesStart asked models (StoreFull full) =
     MayFillStore models asked.model (flood_start asked) full
 RefusesStart asked models Memory = ⊤
 RefusesStart asked models _ = ⊥
+
+-- whether the place is there
+abbrev pub verdict_of_place : FloodAsked → List Content → Verdict
+verdict_of_place asked models = if has_start_place asked models then Fine else HasNoPlace
+
+abbrev pub flood_means : FloodAsked → Meaning ℕ
+flood_means asked = record {
+  inputs = vox_input asked.file ∷ [];
+  gives = λ texts number outputs. RegionFlooded asked (file_in texts) number outputs;
+  begins = λ texts outputs. RegionBegun asked (file_in texts) outputs;
+  refuses = λ texts r. RefusesFlooding asked (file_in texts) r;
+  judges = λ texts v. JudgesModels (λ models w. w ≡ verdict_of_place asked models) (file_in texts)
+      v;
+  journal = false;
+}

@@ -1,12 +1,10 @@
--- What a request reads, and what it writes.
+-- What commands read, and what they write.
 use Rattle.std.specs.Prelude.{ℕ, ◌^◌, Bool, true, false, ◌++◌, ◌∷◌, [], List, map, Option, Some, None, codes}
 use Rattle.vw_io.specs.Inputs.{WantedInput}
 use Rattle.vw_io.specs.Outputs.{Named}
 use Rattle.history_model.specs.Journal.{journal_of}
 use Rattle.history_model.specs.Logs.{Log}
-use Rattle.script_files.specs.Orders.{Asked}
-use Rattle.script_files.specs.declared.requests.Request.{Request}
-use Rattle.script_files.specs.declared.requests.Request.TheVariants.{Count, Run, Demo, Flood, Scene, Dag, Look, Audit}
+use Rattle.script_files.specs.Orders.{Asked, AuditAsked}
 use Rattle.transcript.specs.declared.answers.LineAnswer.{LineAnswer}
 use Rattle.transcript.specs.Lines.{transcript_of}
 use Rattle.script.specs.declared.commands.Command.{Command}
@@ -38,22 +36,18 @@ script_input name = record { name = name; limit = script_limit }
 abbrev pub transcript_name : List ℕ → List ℕ
 transcript_name script = script ++ codes ".out"
 
--- what is read, in order: a VOX file first, and then the scripts; or a file of many versions alone.
--- A load is made, and not read. An
--- audit has the journal between them, and the transcripts behind the scripts; a file of versions is
--- made of a VOX file and a journal
-abbrev pub inputs_of : Request → List WantedInput
-inputs_of (Count file) = record { name = file; limit = vox_limit } ∷ []
-inputs_of (Run asked) =
-    record { name = asked.file; limit = vox_limit } ∷ map script_input asked.scripts
-inputs_of (Demo n) = []
-inputs_of (Flood asked) = record { name = asked.file; limit = vox_limit } ∷ []
-inputs_of (Scene asked) = record { name = asked.file; limit = vox_limit } ∷ []
-inputs_of (Dag asked) =
-    record { name = asked.file; limit = vox_limit } ∷ script_input asked.journal ∷ []
-inputs_of (Look asked) = record { name = asked.dag; limit = vox_limit } ∷ []
-inputs_of (Audit asked) =
-    record { name = asked.file; limit = vox_limit } ∷ script_input asked.journal
+-- a VOX file, or a file of many versions
+abbrev pub vox_input : List ℕ → WantedInput
+vox_input name = record { name = name; limit = vox_limit }
+
+-- what a run reads, in order
+abbrev pub run_inputs : Asked → List WantedInput
+run_inputs asked = vox_input asked.file ∷ map script_input asked.scripts
+
+-- an audit has the journal between them, and the transcripts behind the scripts
+abbrev pub audit_inputs : AuditAsked → List WantedInput
+audit_inputs asked =
+    vox_input asked.file ∷ script_input asked.journal
     ∷ (map script_input asked.scripts ++ map script_input (map transcript_name asked.scripts))
 
 -- the name of what is wanted

@@ -8,7 +8,8 @@ use Rattle.transcript.specs.Lines.{transcript_of}
 use Rattle.transcript.specs.declared.answers.LineAnswer.{LineAnswer}
 use Rattle.audit.specs.Audits.{judged_by}
 use Rattle.script_files.specs.Audits.{AuditTexts, AnswersAudit}
-use Rattle.script_files.specs.Meanings.{file_in, scripts_in, IsAccepted}
+use Rattle.script_files.specs.Meanings.{file_in, scripts_in}
+use Rattle.script_files.specs.Runs.{IsAccepted}
 use Rattle.script_files.specs.Orders.{Asked}
 
 -- the journal of a history, the scripts of a run, and its transcripts

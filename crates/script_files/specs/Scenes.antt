@@ -1,17 +1,21 @@
 -- What the command `scene` tells and writes, or is refused for.
-use Rattle.std.specs.Prelude.{◌≡◌, ℕ, ◌^◌, List, [], ◌∷◌, length, Ok, Err, ⊤}
+use Rattle.std.specs.Prelude.{◌≡◌, ℕ, ◌^◌, List, [], ◌∷◌, false, length, Option, Some, None, Ok, Err, ⊤}
 use Rattle.vw_io.specs.Outputs.{Named}
 use Rattle.vox_read.specs.Contents.{Content}
 use Rattle.vox_read.specs.Files.{ReadsModels}
 use Rattle.vox_write.specs.Written.{models_file}
 use Rattle.vox_scene.specs.declared.faults.SceneFault.{SceneFault}
+use Rattle.vox_scene.specs.Judged.{JudgesScene}
 use Rattle.vox_scene.specs.Scenes.{SceneSeen, HasScene, ReadsScene}
 use Rattle.vox_scene.specs.Written.{stamp_lines}
 use Rattle.text_laws.specs.scenes.Building.{BuildsScene}
 use Rattle.script_files.specs.declared.refusals.TextRefused.{TextRefused}
 use Rattle.script_files.specs.declared.refusals.TextRefused.TheVariants.{Vox, NoScene, Memory}
 use Rattle.script_files.specs.declared.tallies.SceneTally.{SceneTally}
+use Rattle.script_files.specs.Meanings.{Meaning, file_in}
 use Rattle.script_files.specs.Orders.{SceneAsked}
+use Rattle.script_files.specs.Requests.{vox_input}
+use Rattle.script_files.specs.Verdicts.{Verdict, Fine, HasSceneFault, JudgesModels}
 
 -- the numbers of a scene, the file of its turned models, and the script of their stamps
 pub record TellsScene (scene : SceneSeen) (told : SceneTally) (models script : List ℕ) : Type 0
@@ -55,3 +59,22 @@ RefusesPlacing bytes (Vox fault) = ReadsModels bytes (Err fault)
 RefusesPlacing bytes (NoScene fault) = LacksScene bytes fault
 RefusesPlacing bytes Memory = ⊤
 RefusesPlacing bytes _ = ⊥
+
+-- whether the scene has a fault
+abbrev pub verdict_of_scene : Option SceneFault → Verdict
+verdict_of_scene None = Fine
+verdict_of_scene (Some fault) = HasSceneFault fault
+
+abbrev pub JudgesPlaces : List ℕ → Verdict → Type 0
+JudgesPlaces bytes v =
+    (found : Option SceneFault) × JudgesScene bytes found × (v ≡ verdict_of_scene found)
+
+abbrev pub scene_means : SceneAsked → Meaning SceneTally
+scene_means asked = record {
+  inputs = vox_input asked.file ∷ [];
+  gives = λ texts told outputs. ScenePlaced asked (file_in texts) told outputs;
+  begins = λ texts outputs. SceneBegun asked (file_in texts) outputs;
+  refuses = λ texts r. RefusesPlacing (file_in texts) r;
+  judges = λ texts v. JudgesModels (λ models w. JudgesPlaces (file_in texts) w) (file_in texts) v;
+  journal = false;
+}

@@ -24,7 +24,8 @@ use Rattle.script_files.specs.Orders.{Asked}
 use Rattle.script_files.specs.Scripts.{AreFitScripts, lines_asked, scripts_of}
 use Rattle.script_files.specs.declared.refusals.OutputRefused.{OutputRefused}
 use Rattle.script_files.specs.declared.scripts.Read.{Read}
-use Rattle.script_files.specs.Meanings.{file_in, scripts_in, AreApart, TalliesRun}
+use Rattle.script_files.specs.Meanings.{file_in, scripts_in}
+use Rattle.script_files.specs.Runs.{AreApart, TalliesRun}
 use Rattle.script_files.specs.Refusals.{output_name}
 use Rattle.script_files.specs.Reports.{ReportIs, BeginsTexts}
 use Rattle.world_run.specs.Open.{file_of_save}

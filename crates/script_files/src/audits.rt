@@ -4,12 +4,11 @@ ghost use Rattle.node_words.specs.Plans.{is_number_of_buckets};
 ghost use Rattle.audit.specs.Audits.{IsAudited, RefusesAudit, judged_by};
 ghost use Rattle.vox_read.specs.Contents.{AreModels};
 ghost use Rattle.dag_answers.specs.Kept.{IsLargeStore};
-ghost use Rattle.script_files.specs.declared.requests.Request.TheVariants.{Audit};
-ghost use Rattle.script_files.specs.Audits.{AnswersAudit, RefusesAuditing};
-ghost use Rattle.script_files.specs.Meanings.{file_in, texts_audited};
+ghost use Rattle.script_files.specs.Audits.{AnswersAudit, RefusesAuditing, audit_means, texts_audited};
+ghost use Rattle.script_files.specs.Meanings.{file_in};
 ghost use Rattle.script_files.specs.Outcomes.{Outcome};
 ghost use Rattle.script_files.specs.Refusals.{HasOutputName, RefusesScripts};
-ghost use Rattle.script_files.specs.Requests.{inputs_of, script_input, transcript_name};
+ghost use Rattle.script_files.specs.Requests.{audit_inputs, script_input, transcript_name};
 ghost use Rattle.script_files.specs.Scripts.{AreFitScripts, lines_told};
 ghost use Rattle.script_files.specs.Audits.{AreTranscriptsOf};
 ghost use Rattle.script_files.specs.Auditing.{IsLeft, AddsTranscript, RefusesNextTranscript, RefusesTranscripts};
@@ -18,7 +17,6 @@ use crate::journals::read_told;
 use crate::refusals::{CommandRefused, TextRefused, TranscriptLine};
 use crate::requests::{AuditOrder, Buckets, SCRIPT_LIMIT, VOX_LIMIT, world_kept};
 use crate::scripts::read_scripts;
-use crate::tallies::{Completed, Done};
 use audit::{AuditRefused, audit};
 use conformance::Transcript;
 use history_model::History;
@@ -42,19 +40,20 @@ pub(crate) struct RunLeft {
 /// Whether a journal and the transcripts under these names are those of one run of the scripts. It
 /// reads the VOX file, of at most 256 MiB, and the journal, the scripts and the transcripts, each
 /// of at most 8 MiB, and writes nothing.
-#[tactic(auto, using(crate::proofs::Ending::file_within, crate::proofs::Ending::not_accepted, crate::proofs::Auditing::audited, crate::proofs::Auditing::audit_refused))]
+#[tactic(auto, using(crate::proofs::Accepting::file_within, crate::proofs::Auditing::audited, crate::proofs::Auditing::not_audited))]
 pub fn audit_files<'w, S: Shelf>(
     alloc: Global,
     order: &AuditOrder<'w>,
     transcripts: &'w [String],
     shelf: &mut S,
-) -> Result<Completed, CommandRefused<'w>>
+) -> Result<bool, CommandRefused<'w>>
     requires few { length order.now.scripts ≤ 64 }
     requires named { map string_bytes transcripts.now ≡ map transcript_name order.now.scripts }
-    ensures outcome { Outcome result (Audit order.now) (S.state shelf.old) (S.state shelf.new) }
+    ensures outcome { Outcome (audit_means order.now) result (S.state shelf.old)
+        (S.state shelf.new) }
     ensures named { IfErr result HasOutputName }
 {
-    let Ok(inputs) = inputs_of(alloc, order, transcripts) else {
+    let Ok(inputs) = audit_inputs(alloc, order, transcripts) else {
         return Err(CommandRefused::Text(TextRefused::Memory));
     };
     let texts = match read_all(alloc, inputs.as_slice(), shelf) {
@@ -62,10 +61,7 @@ pub fn audit_files<'w, S: Shelf>(
         Err(refused) => return Err(CommandRefused::Input(refused)),
     };
     match answer_of_texts(alloc, order, texts) {
-        Ok(answer) => Ok(Completed {
-            done: Done::Answered(answer),
-            ended: None,
-        }),
+        Ok(answer) => Ok(answer),
         Err(refused) => Err(CommandRefused::Text(refused)),
     }
 }
@@ -84,13 +80,13 @@ pub(crate) fn names_read(alloc: Global, scripts: &[String]) -> Result<Vec<String
 }
 
 // What an audit reads, in order.
-fn inputs_of<'w>(
+fn audit_inputs<'w>(
     alloc: Global,
     order: &AuditOrder<'w>,
     transcripts: &'w [String],
 ) -> Result<Vec<Input<'w>>, Memory>
     requires named { map string_bytes transcripts.now ≡ map transcript_name order.now.scripts }
-    ensures { IfOk result (λ inputs. inputs.items ≡ inputs_of (Audit order.now)) }
+    ensures { IfOk result (λ inputs. inputs.items ≡ audit_inputs order.now) }
 {
     let mut inputs = Vec::new(alloc);
     inputs.push(Input {

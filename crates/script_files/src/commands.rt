@@ -1,5 +1,5 @@
 ghost use Rattle.std.specs.Prelude.{◌≡◌, ◌≤◌, length, map, string_bytes, IfOk, IfErr};
-ghost use Rattle.script_files.specs.Commands.{scripts_asked};
+ghost use Rattle.script_files.specs.Commands.{alone, run_told, load_told, meaning_of, scripts_asked};
 ghost use Rattle.script_files.specs.Outcomes.{Outcome};
 ghost use Rattle.script_files.specs.Refusals.{HasOutputName};
 ghost use Rattle.script_files.specs.Requests.{transcript_name};
@@ -14,7 +14,7 @@ use crate::refusals::CommandRefused;
 use crate::requests::{FileName, Request};
 use crate::runs::{run_files, transcript_names};
 use crate::scene_files::scene_file;
-use crate::tallies::Completed;
+use crate::tallies::{Completed, Done, LoadWritten, RunWritten};
 use gate_run::Gate;
 use std::alloc::Global;
 use std::sync::Wait;
@@ -36,18 +36,72 @@ pub fn carry_out<'w, S: Shelf, R: Threads + Wait + Sync, G: Gate + Sync>(
     requires few { length (scripts_asked asked.now) ≤ 64 }
     requires named { map string_bytes transcripts.now
         ≡ map transcript_name (scripts_asked asked.now) }
-    ensures outcome { Outcome result asked.now (S.state shelf.old) (S.state shelf.new) }
+    ensures outcome { Outcome (meaning_of asked.now) result (S.state shelf.old)
+        (S.state shelf.new) }
     ensures named { IfErr result HasOutputName }
 {
     match asked {
-        Request::Count(file) => count_file(alloc, FileName { text: file.text }, shelf),
-        Request::Run(order) => run_files(rt, gate, alloc, order, transcripts, shelf),
-        Request::Demo(n) => run_demo(rt, gate, alloc, *n, transcripts, shelf),
-        Request::Flood(order) => flood_file(alloc, order, shelf),
-        Request::Scene(order) => scene_file(alloc, order, shelf),
-        Request::Dag(order) => dag_file(alloc, order, shelf),
-        Request::Look(order) => look_file(alloc, order, shelf),
-        Request::Audit(order) => audit_files(alloc, order, transcripts, shelf),
+        Request::Count(file) => {
+            match count_file(alloc, FileName { text: file.text }, shelf) {
+                Ok(cells) => Ok(alone(Done::Counted(cells))),
+                Err(refused) => Err(refused),
+            }
+        }
+        Request::Run(order) => match run_files(rt, gate, alloc, order, transcripts, shelf) {
+            Ok(written) => Ok(run_told(written)),
+            Err(refused) => Err(refused),
+        },
+        Request::Demo(n) => match run_demo(rt, gate, alloc, *n, transcripts, shelf) {
+            Ok(written) => Ok(load_told(written)),
+            Err(refused) => Err(refused),
+        },
+        Request::Flood(order) => match flood_file(alloc, order, shelf) {
+            Ok(cells) => Ok(alone(Done::Counted(cells))),
+            Err(refused) => Err(refused),
+        },
+        Request::Scene(order) => match scene_file(alloc, order, shelf) {
+            Ok(tally) => Ok(alone(Done::Placed(tally))),
+            Err(refused) => Err(refused),
+        },
+        Request::Dag(order) => match dag_file(alloc, order, shelf) {
+            Ok(()) => Ok(alone(Done::Written)),
+            Err(refused) => Err(refused),
+        },
+        Request::Look(order) => match look_file(alloc, order, shelf) {
+            Ok(answer) => Ok(alone(Done::Looked(answer))),
+            Err(refused) => Err(refused),
+        },
+        Request::Audit(order) => match audit_files(alloc, order, transcripts, shelf) {
+            Ok(answer) => Ok(alone(Done::Answered(answer))),
+            Err(refused) => Err(refused),
+        },
+    }
+}
+
+// What is told where no scripts ran.
+fn alone(done: Done) -> Completed
+    ensures { result ≡ alone done }
+{
+    Completed { done, ended: None }
+}
+
+// What is told of a run.
+fn run_told(written: RunWritten) -> Completed
+    ensures { result ≡ run_told written }
+{
+    Completed {
+        done: Done::Ran(written.tally),
+        ended: Some(written.ended),
+    }
+}
+
+// What is told of a load's run.
+fn load_told(written: LoadWritten) -> Completed
+    ensures { result ≡ load_told written }
+{
+    Completed {
+        done: Done::Shown(written.tally),
+        ended: Some(written.ended),
     }
 }
 

@@ -1,27 +1,26 @@
 ghost use Rattle.std.specs.Prelude.{◌≡◌, ◌≤◌, ◌^◌, length, IfOk, IfErr};
 ghost use Rattle.vox_read.specs.Contents.{AreModels, cells_of_all};
 ghost use Rattle.vox_read.specs.Files.{RefusesFile};
-ghost use Rattle.script_files.specs.declared.requests.Request.TheVariants.{Count};
+ghost use Rattle.script_files.specs.Counts.{count_means};
 ghost use Rattle.script_files.specs.Meanings.{file_in};
 ghost use Rattle.script_files.specs.Outcomes.{Outcome};
 ghost use Rattle.script_files.specs.Stages.{CountsFile};
 
 use crate::refusals::{CommandRefused, TextRefused};
 use crate::requests::{FileName, VOX_LIMIT};
-use crate::tallies::{Completed, Done};
 use std::alloc::Global;
 use vox_read::{Models, VoxFault, cell_count, read_models};
 use vw_cell::Memory;
 use vw_io::{Input, Shelf, Text, read_all};
 
 /// Counts the cells of all models of a VOX file, of at most 256 MiB. It writes nothing.
-#[tactic(auto, using(crate::proofs::Ending::file_within, crate::proofs::Ending::counted, crate::proofs::Ending::not_accepted, crate::proofs::Refusing::vox_refused))]
+#[tactic(auto, using(crate::proofs::Accepting::file_within, crate::proofs::Counting::counted, crate::proofs::Counting::not_counted, crate::proofs::Refusing::vox_refused))]
 pub fn count_file<'w, S: Shelf>(
     alloc: Global,
     file: FileName<'w>,
     shelf: &mut S,
-) -> Result<Completed, CommandRefused<'w>>
-    ensures { Outcome result (Count file.entry) (S.state shelf.old) (S.state shelf.new) }
+) -> Result<u64, CommandRefused<'w>>
+    ensures { Outcome (count_means file.entry) result (S.state shelf.old) (S.state shelf.new) }
 {
     let inputs = [Input {
         name: file.text,
@@ -29,10 +28,7 @@ pub fn count_file<'w, S: Shelf>(
     }];
     match read_all(alloc, &inputs, shelf) {
         Ok(texts) => match count_first(alloc, texts) {
-            Ok(cells) => Ok(Completed {
-                done: Done::Counted(cells),
-                ended: None,
-            }),
+            Ok(cells) => Ok(cells),
             Err(fault) => Err(CommandRefused::Text(TextRefused::from(fault))),
         },
         Err(refused) => Err(CommandRefused::Input(refused)),

@@ -1,6 +1,5 @@
 ghost use Rattle.std.specs.Prelude.{◌≡◌, ◌+◌, ◌≤◌, ◌^◌, length, IfOk, IfErr};
-ghost use Rattle.script_files.specs.Dags.{MakesDag, RefusesDagging, journal_in};
-ghost use Rattle.script_files.specs.declared.requests.Request.TheVariants as requests;
+ghost use Rattle.script_files.specs.Dags.{MakesDag, RefusesDagging, dag_means, journal_in};
 ghost use Rattle.script_files.specs.Meanings.{file_in};
 ghost use Rattle.script_files.specs.Outcomes.{Outcome};
 ghost use Rattle.script_files.specs.Refusals.{HasOutputName};
@@ -8,7 +7,6 @@ ghost use Rattle.script_files.specs.Refusals.{HasOutputName};
 use crate::journals::read_told;
 use crate::refusals::{CommandRefused, OutputRefused, TextRefused};
 use crate::requests::{DagOrder, SCRIPT_LIMIT, VOX_LIMIT};
-use crate::tallies::{Completed, Done};
 use dag_answers::{HistoryRefused, file_of_history};
 use std::alloc::Global;
 use vox_read::read_models;
@@ -16,13 +14,13 @@ use vw_io::{Input, Output, Shelf, Text, read_all, write_all};
 
 /// Replays a journal of at most 8 MiB over the models of a VOX file of at most 256 MiB, and writes
 /// the versions without a mark as one file.
-#[tactic(auto, using(crate::proofs::Ending::file_within, crate::proofs::Ending::not_accepted, crate::proofs::Dagging::dagging_refused, crate::proofs::Dagging::dag_written, crate::proofs::Dagging::dag_stopped))]
+#[tactic(auto, using(crate::proofs::Accepting::file_within, crate::proofs::Dagging::no_dag, crate::proofs::Dagging::dag_written))]
 pub fn dag_file<'w, S: Shelf>(
     alloc: Global,
     order: &DagOrder<'w>,
     shelf: &mut S,
-) -> Result<Completed, CommandRefused<'w>>
-    ensures outcome { Outcome result (requests.Dag order.now) (S.state shelf.old)
+) -> Result<(), CommandRefused<'w>>
+    ensures outcome { Outcome (dag_means order.now) result (S.state shelf.old)
         (S.state shelf.new) }
     ensures named { IfErr result HasOutputName }
 {
@@ -49,10 +47,7 @@ pub fn dag_file<'w, S: Shelf>(
         bytes: dag.as_slice(),
     }];
     match write_all(&outputs, shelf) {
-        Ok(()) => Ok(Completed {
-            done: Done::Written,
-            ended: None,
-        }),
+        Ok(()) => Ok(()),
         Err(refused) => Err(CommandRefused::Output(OutputRefused::from(refused))),
     }
 }

@@ -1,9 +1,8 @@
 ghost use Rattle.std.specs.Prelude.{◌≡◌, ◌≤◌, false, length, map, string_bytes, IfOk, IfErr};
 ghost use Rattle.vox_read.specs.Contents.{AreModels};
-ghost use Rattle.script_files.specs.declared.requests.Request.TheVariants.{Demo};
 ghost use Rattle.script_files.specs.Requests.{transcript_name};
 ghost use Rattle.text_laws.specs.regions.LastCounts.{count_told, last_count, region_counts};
-ghost use Rattle.script_files.specs.Demos.{demo_asked};
+ghost use Rattle.script_files.specs.Demos.{demo_asked, demo_means};
 ghost use Rattle.script_files.specs.Outcomes.{Outcome};
 ghost use Rattle.script_files.specs.Refusals.{HasOutputName};
 ghost use Rattle.script_files.specs.Scripts.{AreFitScripts};
@@ -13,7 +12,7 @@ use crate::outputs::write_run;
 use crate::refusals::{CommandRefused, TextRefused};
 use crate::requests::{Order, VOX_LIMIT};
 use crate::scripts::{Read, read_scripts};
-use crate::tallies::{Completed, Done, LoadTally};
+use crate::tallies::{LoadTally, LoadWritten};
 use conformance::Transcript;
 use gate_run::Gate;
 use gen_load::load;
@@ -67,9 +66,9 @@ pub fn run_demo<'w, S: Shelf, R: Threads + Wait + Sync, G: Gate + Sync>(
     n: u32,
     transcripts: &'w [String],
     shelf: &mut S,
-) -> Result<Completed, CommandRefused<'w>>
+) -> Result<LoadWritten, CommandRefused<'w>>
     requires { map string_bytes transcripts.now ≡ map transcript_name demo_asked.scripts }
-    ensures outcome { Outcome result (Demo n) (S.state shelf.old) (S.state shelf.new) }
+    ensures outcome { Outcome (demo_means n) result (S.state shelf.old) (S.state shelf.new) }
     ensures named { IfErr result HasOutputName }
 {
     loads_are_counted();
@@ -93,13 +92,13 @@ pub fn run_demo<'w, S: Shelf, R: Threads + Wait + Sync, G: Gate + Sync>(
     };
     let counts = region_counts(run.transcripts.as_slice());
     match write_run(rt, alloc, &order, transcripts, run, shelf) {
-        Ok(written) => Ok(Completed {
-            done: Done::Shown(LoadTally {
+        Ok(written) => Ok(LoadWritten {
+            tally: LoadTally {
                 number: n,
                 records: written.tally.records,
                 counts,
-            }),
-            ended: Some(written.ended),
+            },
+            ended: written.ended,
         }),
         Err(refused) => Err(CommandRefused::Output(refused)),
     }

@@ -1,15 +1,13 @@
 ghost use Rattle.std.specs.Prelude.{◌≡◌, ◌≤◌, ◌^◌, length, IfOk, IfErr, MatchOption};
 ghost use Rattle.vox_read.specs.Contents.{AreModels};
 ghost use Rattle.flood.specs.Models.{FloodsModel};
-ghost use Rattle.script_files.specs.declared.requests.Request.TheVariants.{Flood};
-ghost use Rattle.script_files.specs.Floods.{flood_start, IsFar, FloodsText, RefusesFlooding, RefusesStart};
+ghost use Rattle.script_files.specs.Floods.{flood_start, IsFar, FloodsText, RefusesFlooding, RefusesStart, flood_means};
 ghost use Rattle.script_files.specs.Meanings.{file_in};
 ghost use Rattle.script_files.specs.Outcomes.{Outcome};
 ghost use Rattle.script_files.specs.Refusals.{HasOutputName};
 
 use crate::refusals::{CommandRefused, OutputRefused, TextRefused};
 use crate::requests::{FloodOrder, VOX_LIMIT};
-use crate::tallies::{Completed, Done};
 use flood::{RegionFile, model_region};
 use std::alloc::Global;
 use vox_read::{Models, read_models};
@@ -17,13 +15,14 @@ use vw_cell::Cell;
 use vw_io::{Input, Output, Shelf, Text, read_all, write_all};
 
 /// Floods a model of a VOX file, of at most 256 MiB, from a place, and writes the region's file.
-#[tactic(auto, using(crate::proofs::Ending::file_within, crate::proofs::Ending::not_accepted, crate::proofs::Flooding::text_refused, crate::proofs::Flooding::flooded, crate::proofs::Flooding::flood_stopped))]
+#[tactic(auto, using(crate::proofs::Accepting::file_within, crate::proofs::Flooding::not_flooded, crate::proofs::Flooding::flooded))]
 pub fn flood_file<'w, S: Shelf>(
     alloc: Global,
     order: &FloodOrder<'w>,
     shelf: &mut S,
-) -> Result<Completed, CommandRefused<'w>>
-    ensures outcome { Outcome result (Flood order.now) (S.state shelf.old) (S.state shelf.new) }
+) -> Result<u64, CommandRefused<'w>>
+    ensures outcome { Outcome (flood_means order.now) result (S.state shelf.old)
+        (S.state shelf.new) }
     ensures named { IfErr result HasOutputName }
 {
     let inputs = [Input {
@@ -43,10 +42,7 @@ pub fn flood_file<'w, S: Shelf>(
         bytes: region.file.as_slice(),
     }];
     match write_all(&outputs, shelf) {
-        Ok(()) => Ok(Completed {
-            done: Done::Counted(u64::from(region.cells)),
-            ended: None,
-        }),
+        Ok(()) => Ok(u64::from(region.cells)),
         Err(refused) => Err(CommandRefused::Output(OutputRefused::from(refused))),
     }
 }

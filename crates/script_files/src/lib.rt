@@ -34,5 +34,5 @@ pub use refusals::{
 pub use requests::{
     AuditOrder, Buckets, DagOrder, FileName, FloodOrder, LookOrder, Order, Request, SceneOrder,
 };
-pub use tallies::{Completed, Done, LoadTally, RunWritten, SceneTally, Tally};
+pub use tallies::{Completed, Done, LoadTally, LoadWritten, RunWritten, SceneTally, Tally};
 pub use world_run::Ended;

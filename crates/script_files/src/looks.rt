@@ -1,27 +1,25 @@
 ghost use Rattle.std.specs.Prelude.{◌≡◌, length, IfOk, IfErr};
 ghost use Rattle.dag_answers.specs.Looks.{AnswersLook};
-ghost use Rattle.script_files.specs.declared.requests.Request.TheVariants as requests;
-ghost use Rattle.script_files.specs.Looks.{RefusesLooking};
+ghost use Rattle.script_files.specs.Looks.{RefusesLooking, look_means};
 ghost use Rattle.script_files.specs.Meanings.{file_in};
 ghost use Rattle.script_files.specs.Outcomes.{Outcome};
 ghost use Rattle.script_files.specs.Refusals.{HasOutputName};
 
 use crate::refusals::{CommandRefused, TextRefused};
 use crate::requests::{LookOrder, VOX_LIMIT};
-use crate::tallies::{Completed, Done};
 use dag_answers::look;
 use std::alloc::Global;
 use transcript::Answer;
 use vw_io::{Input, Shelf, Text, read_all};
 
 /// Asks a version of a file of many, of at most 256 MiB. It writes nothing.
-#[tactic(auto, using(crate::proofs::Ending::not_accepted, crate::proofs::Looking::looked, crate::proofs::Looking::looking_refused))]
+#[tactic(auto, using(crate::proofs::Looking::looked, crate::proofs::Looking::not_looked))]
 pub fn look_file<'w, S: Shelf>(
     alloc: Global,
     order: &LookOrder<'w>,
     shelf: &mut S,
-) -> Result<Completed, CommandRefused<'w>>
-    ensures outcome { Outcome result (requests.Look order.now) (S.state shelf.old)
+) -> Result<Answer, CommandRefused<'w>>
+    ensures outcome { Outcome (look_means order.now) result (S.state shelf.old)
         (S.state shelf.new) }
     ensures named { IfErr result HasOutputName }
 {
@@ -34,10 +32,7 @@ pub fn look_file<'w, S: Shelf>(
         Err(refused) => return Err(CommandRefused::Input(refused)),
     };
     match answer_of_text(alloc, order, texts) {
-        Ok(answer) => Ok(Completed {
-            done: Done::Looked(answer),
-            ended: None,
-        }),
+        Ok(answer) => Ok(answer),
         Err(refused) => Err(CommandRefused::Text(refused)),
     }
 }

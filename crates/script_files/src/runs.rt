@@ -1,6 +1,6 @@
 ghost use Rattle.std.specs.Prelude.{◌≡◌, ◌≤◌, length, map, string_bytes, IfOk, IfErr};
-ghost use Rattle.script_files.specs.declared.requests.Request.TheVariants.{Run};
-ghost use Rattle.script_files.specs.Requests.{inputs_of, transcript_name};
+ghost use Rattle.script_files.specs.Requests.{run_inputs, transcript_name};
+ghost use Rattle.script_files.specs.Runs.{run_means};
 ghost use Rattle.script_files.specs.Outcomes.{Outcome};
 ghost use Rattle.script_files.specs.Refusals.{HasOutputName};
 
@@ -8,7 +8,7 @@ use crate::outputs::write_run;
 use crate::refusals::{CommandRefused, TextRefused};
 use crate::requests::{Order, SCRIPT_LIMIT, VOX_LIMIT};
 use crate::scripts::read_texts;
-use crate::tallies::{Completed, Done};
+use crate::tallies::RunWritten;
 use gate_run::Gate;
 use std::alloc::Global;
 use std::sync::Wait;
@@ -26,7 +26,7 @@ use world_run::{Settings, run_scripts};
 /// as it falls out. Then it writes the transcripts under their names, which are those of the
 /// scripts with `.out` behind them, and the files that were saved, each made when it is its turn;
 /// it closes the world, and writes the journal and the report where they are asked for.
-#[tactic(auto, using(crate::proofs::Ending::file_within, crate::proofs::Ending::not_accepted, crate::proofs::Ending::run_written, crate::proofs::Ending::run_stopped))]
+#[tactic(auto, using(crate::proofs::Accepting::file_within, crate::proofs::Ending::run_refused, crate::proofs::Ending::run_written, crate::proofs::Ending::run_stopped))]
 pub fn run_files<'w, S: Shelf, R: Threads + Wait + Sync, G: Gate + Sync>(
     rt: &R,
     gate: &G,
@@ -34,13 +34,14 @@ pub fn run_files<'w, S: Shelf, R: Threads + Wait + Sync, G: Gate + Sync>(
     order: &Order<'w>,
     transcripts: &'w [String],
     shelf: &mut S,
-) -> Result<Completed, CommandRefused<'w>>
+) -> Result<RunWritten, CommandRefused<'w>>
     requires few { length order.now.scripts ≤ 64 }
     requires named { map string_bytes transcripts.now ≡ map transcript_name order.now.scripts }
-    ensures outcome { Outcome result (Run order.now) (S.state shelf.old) (S.state shelf.new) }
+    ensures outcome { Outcome (run_means order.now) result (S.state shelf.old)
+        (S.state shelf.new) }
     ensures named { IfErr result HasOutputName }
 {
-    let Ok(inputs) = inputs_of(alloc, order) else {
+    let Ok(inputs) = run_inputs(alloc, order) else {
         return Err(CommandRefused::Text(TextRefused::Memory));
     };
     let texts = match read_all(alloc, inputs.as_slice(), shelf) {
@@ -66,10 +67,7 @@ pub fn run_files<'w, S: Shelf, R: Threads + Wait + Sync, G: Gate + Sync>(
         return Err(CommandRefused::Text(TextRefused::Memory));
     };
     match write_run(rt, alloc, order, transcripts, run, shelf) {
-        Ok(written) => Ok(Completed {
-            done: Done::Ran(written.tally),
-            ended: Some(written.ended),
-        }),
+        Ok(written) => Ok(written),
         Err(refused) => Err(CommandRefused::Output(refused)),
     }
 }
@@ -87,8 +85,8 @@ pub(crate) fn transcript_names(alloc: Global, scripts: &[&str]) -> Result<Vec<St
 }
 
 // What a run reads, in order.
-fn inputs_of<'w>(alloc: Global, order: &Order<'w>) -> Result<Vec<Input<'w>>, Memory>
-    ensures { IfOk result (λ inputs. inputs.items ≡ inputs_of (Run order.now)) }
+fn run_inputs<'w>(alloc: Global, order: &Order<'w>) -> Result<Vec<Input<'w>>, Memory>
+    ensures { IfOk result (λ inputs. inputs.items ≡ run_inputs order.now) }
 {
     let mut inputs = Vec::new(alloc);
     inputs.push(Input {

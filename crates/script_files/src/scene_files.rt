@@ -1,14 +1,13 @@
 ghost use Rattle.std.specs.Prelude.{◌≡◌, ◌≤◌, ◌+◌, ◌^◌, length, IfOk, IfErr};
 ghost use Rattle.vox_write.specs.Written.{chunks_length};
-ghost use Rattle.script_files.specs.declared.requests.Request.TheVariants as requests;
-ghost use Rattle.script_files.specs.Scenes.{TellsScene, PlacesText, RefusesPlacing};
+ghost use Rattle.script_files.specs.Scenes.{TellsScene, PlacesText, RefusesPlacing, scene_means};
 ghost use Rattle.script_files.specs.Meanings.{file_in};
 ghost use Rattle.script_files.specs.Outcomes.{Outcome};
 ghost use Rattle.script_files.specs.Refusals.{HasOutputName};
 
 use crate::refusals::{CommandRefused, OutputRefused, TextRefused};
 use crate::requests::{SceneOrder, VOX_LIMIT};
-use crate::tallies::{Completed, Done, SceneTally};
+use crate::tallies::SceneTally;
 use std::alloc::Global;
 use vox_read::read_models;
 use vox_scene::{Scene, read_scene, scene_bytes, stamp_text};
@@ -25,13 +24,13 @@ struct Placement {
 
 /// Reads the scene of a VOX file, of at most 256 MiB, and writes its turned models as a VOX file
 /// and the script of their stamps.
-#[tactic(auto, using(crate::proofs::Ending::file_within, crate::proofs::Ending::not_accepted, crate::proofs::Placing::placing_refused, crate::proofs::Placing::scene_written, crate::proofs::Placing::scene_stopped))]
+#[tactic(auto, using(crate::proofs::Accepting::file_within, crate::proofs::Placing::not_placed, crate::proofs::Placing::scene_written))]
 pub fn scene_file<'w, S: Shelf>(
     alloc: Global,
     order: &SceneOrder<'w>,
     shelf: &mut S,
-) -> Result<Completed, CommandRefused<'w>>
-    ensures outcome { Outcome result (requests.Scene order.now) (S.state shelf.old)
+) -> Result<SceneTally, CommandRefused<'w>>
+    ensures outcome { Outcome (scene_means order.now) result (S.state shelf.old)
         (S.state shelf.new) }
     ensures named { IfErr result HasOutputName }
 {
@@ -58,10 +57,7 @@ pub fn scene_file<'w, S: Shelf>(
         },
     ];
     match write_all(&outputs, shelf) {
-        Ok(()) => Ok(Completed {
-            done: Done::Placed(placed.tally),
-            ended: None,
-        }),
+        Ok(()) => Ok(placed.tally),
         Err(refused) => Err(CommandRefused::Output(OutputRefused::from(refused))),
     }
 }

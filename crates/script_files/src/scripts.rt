@@ -4,9 +4,9 @@ ghost use Rattle.vw_io.specs.Names.{collide};
 ghost use Rattle.vox_read.specs.Contents.{AreModels};
 ghost use Rattle.history_model.specs.Logs.{store_exponent};
 ghost use Rattle.script.specs.Fitting.{CommandFits, RisesFrom};
-ghost use Rattle.script_files.specs.declared.requests.Request.TheVariants.{Run};
-ghost use Rattle.script_files.specs.Requests.{inputs_of, output_names, transcript_name, wanted_name, name_saved, names_saved_in, names_saved};
-ghost use Rattle.script_files.specs.Meanings.{file_in, RefusesTexts};
+ghost use Rattle.script_files.specs.Runs.{RefusesRun};
+ghost use Rattle.script_files.specs.Requests.{run_inputs, output_names, transcript_name, wanted_name, name_saved, names_saved_in, names_saved};
+ghost use Rattle.script_files.specs.Meanings.{file_in};
 ghost use Rattle.script_files.specs.Refusals.{RefusesScripts};
 ghost use Rattle.script.specs.Scripts.{commands_of};
 ghost use Rattle.script_files.specs.Scripts.{scripts_of, in_script, HasFileName, AreFitScripts};
@@ -41,7 +41,7 @@ pub(crate) fn read_texts(
     requires some { length texts.items ≡ 1 + length order.now.scripts }
     requires few { length order.now.scripts ≤ 64 }
     requires within { length (file_in texts.items) ≤ 2 ^ 28 }
-    requires inputs { inputs.now ≡ inputs_of (Run order.now) }
+    requires inputs { inputs.now ≡ run_inputs order.now }
     requires named { map string_bytes transcripts.now ≡ map transcript_name order.now.scripts }
     ensures read { IfOk result (ReadsInputs order.now texts.items) }
     ensures models { IfOk result (λ read. AreModels read.models) }
@@ -50,7 +50,7 @@ pub(crate) fn read_texts(
         read.scripts.items) }
     ensures large { IfOk result (λ _. order.now.tint ≡ true → 4 ≤ order.now.plan.side) }
     ensures number { IfOk result (λ read. length read.scripts.items ≤ 64) }
-    ensures refused { IfErr result (λ refused. RefusesTexts refused (Run order.now) texts.items) }
+    ensures refused { IfErr result (RefusesRun order.now texts.items) }
 {
     let mut texts = texts;
     let file = texts.remove(0);

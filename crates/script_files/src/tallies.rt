@@ -15,6 +15,13 @@ pub struct RunWritten {
     pub ended: Ended,
 }
 
+/// What is told of a load's run whose outputs are written, and its closed world.
+#[derive(Drop)]
+pub struct LoadWritten {
+    pub tally: LoadTally,
+    pub ended: Ended,
+}
+
 /// What the line of a command tells that came to its end.
 #[derive(Clone, Copy, Debug, PartialEq, Eq)]
 pub enum Done {

@@ -11,11 +11,15 @@ use Rattle.script_files.specs.declared.refusals.TextRefused.{TextRefused}
 use Rattle.script_files.specs.declared.refusals.TextRefused.TheVariants.{Vox, Script, Collides, NoScene, NoPlace, StoreFull, NoDag, Journal, Transcript, Memory}
 use Rattle.node_words.specs.declared.shares.Full.{Full}
 use Rattle.script_files.specs.declared.requests.Request.{Request}
-use Rattle.script_files.specs.declared.requests.Request.TheVariants.{Flood, Dag, Audit}
-use Rattle.script_files.specs.Verdicts.{Verdict, Fine, FollowsRead, FollowsWrite, FollowsText, Follows}
-use Rattle.script_files.specs.Judging.{outcome_follows}
+use Rattle.script_files.specs.declared.tallies.Completed.{Completed}
+use Rattle.script_files.specs.Commands.{meaning_of}
+use Rattle.script_files.specs.Judging.{Follows}
+use Rattle.script_files.specs.Verdicts.{Verdict, Fine, FollowsRead, FollowsWrite, FollowsText}
+use Rattle.script_files.proofs.Following.{outcome_follows}
+use Rattle.script_files.proofs.Judged.{judged_of}
 use Rattle.voxdag_top.specs.declared.endings.Ending.{Ending}
-use Rattle.voxdag_top.specs.declared.endings.Ending.TheVariants.{Completed, Usage, Refused}
+use Rattle.voxdag_top.specs.declared.endings.Ending.TheVariants.{Usage, Refused}
+use Rattle.voxdag_top.specs.declared.endings.Ending.TheVariants as endings
 use Rattle.voxdag_top.specs.Numbers.{Status, Misuse, LackingMemory, FilledStore, IsOr}
 use Rattle.voxdag_top.specs.Endings.{CommandEnds, EndsAs, EndsUnread, status_of, input_status, output_status, text_status}
 use Rattle.voxdag_top.specs.Finishing.{Finishes, Runs, put, failed, lacking}
@@ -50,9 +54,9 @@ by_verdict v w result same is =
 
 -- the answer of the verdict has the verdict's status
 abbrev pub EndFollows : Verdict → Ending → Type 0
-EndFollows v (Completed done) = v ≡ Fine
+EndFollows v (endings.Completed done) = v ≡ Fine
 EndFollows v Usage = ⊥
-EndFollows v (Refused r) = Follows v (Err r)
+EndFollows v (Refused r) = Follows {T = Completed} v (Err r)
 
 read_status : (v : Verdict) (why : ReadRefused) (name : List ℕ) (result : ℕ)
     → FollowsRead v why name → IsOr (input_status why) result → IsOr (status_for v) result
@@ -70,10 +74,7 @@ write_status v writes.Memory result follows is = memory_or (status_for v) result
 filled_has_store : (a : Option Request) (full : Full) (old new : ShelfState)
     → EndsAs a (Refused (Text (StoreFull full))) old new → HasStore a
 filled_has_store None full old new ends = absurd ends.0
-filled_has_store (Some (Flood asked)) full old new ends = tt
-filled_has_store (Some (Dag asked)) full old new ends = tt
-filled_has_store (Some (Audit asked)) full old new ends = tt
-filled_has_store (Some _) full old new ends = absurd ends.0.says
+filled_has_store (Some a) full old new ends = (ends.0.texts, full, ends.0.says)
 
 filled_or : (a : Option Request) (v : Verdict) (result : ℕ) → HasStore a → v ≡ Fine
     → IsOr FilledStore result → MayCome a v result
@@ -92,7 +93,7 @@ text_comes a v _ result old new ends follows is = inl (by_verdict v _ result fol
 status_follows : (a : Option Request) (v : Verdict) (e : Ending) (result : ℕ)
     (old new : ShelfState) → EndsAs a e old new → EndFollows v e → IsOr (status_of e) result
     → MayCome a v result
-status_follows a v (Completed done) result old new ends follows is =
+status_follows a v (endings.Completed done) result old new ends follows is =
     inl (by_verdict v Fine result follows is)
 status_follows a v Usage result old new ends follows is = absurd follows
 status_follows a v (Refused (Input r)) result old new ends follows is =
@@ -105,11 +106,11 @@ status_follows a v (Refused (Output r)) result old new ends follows is =
 command_follows : (a : Request) (e : Ending) (old new : ShelfState) (files : Files) (v : Verdict)
     → CommandEnds e a old new → old.files ≡ Some files → (Rose old.faults new.faults → ⊥)
     → JudgesWords (Some a) files v → EndFollows v e
-command_follows a (Completed c) old new files v ends told calm judges =
-    outcome_follows (Ok c) a old new ends files v told calm judges
+command_follows a (endings.Completed c) old new files v ends told calm judges =
+    outcome_follows (meaning_of a) (judged_of a) (Ok c) old new ends files v told calm judges
 command_follows a Usage old new files v ends told calm judges = absurd ends
 command_follows a (Refused r) old new files v ends told calm judges =
-    outcome_follows (Err r) a old new ends files v told calm judges
+    outcome_follows (meaning_of a) (judged_of a) (Err r) old new ends files v told calm judges
 
 end_follows : (a : Option Request) (e : Ending) (old new : ShelfState) (files : Files) (v : Verdict)
     → EndsAs a e old new → old.files ≡ Some files → (Rose old.faults new.faults → ⊥)

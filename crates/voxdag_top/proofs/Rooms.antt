@@ -22,13 +22,18 @@ use Rattle.script_files.specs.Kept.{KeptSave}
 use Rattle.script_files.specs.Refusals.{output_name, HasOutputName}
 use Rattle.script_files.specs.Reports.{BeginsTexts}
 use Rattle.script_files.specs.Requests.{RunOutputs, transcript_name, named_texts, wanted_output, saved_output, written_first, written_last, texts_written}
-use Rattle.script_files.specs.Demos.{demo_asked}
-use Rattle.script_files.specs.Meanings.{BeginsOutputs}
+use Rattle.script_files.specs.Commands.{meaning_of}
+use Rattle.script_files.specs.Demos.{demo_asked, LoadBegan}
+use Rattle.script_files.specs.Runs.{ScriptsBegan}
 use Rattle.script_files.specs.Outcomes.{Outcome, BreaksOff}
 use Rattle.voxdag_top.specs.declared.endings.Ending.{Ending}
 use Rattle.voxdag_top.specs.declared.endings.Ending.TheVariants.{Completed, Usage, Refused}
 use Rattle.voxdag_top.specs.Endings.{CommandEnds}
 use Rattle.voxdag_top.specs.Finishing.{FitsRoom, NamesFit, OutputsFit, WriteHasRoom, RefusalHasRoom, HasLineRoom, IsEndingNamed}
+
+-- the command broke off at this output
+abbrev Breaks : WriteRefused → List ℕ → Request → ShelfState → ShelfState → Type 0
+Breaks why name a old new = BreaksOff why name (meaning_of a).inputs (meaning_of a).begins old new
 
 -- the output's name fits
 abbrev pub NameFits : ℕ → Named → Type 0
@@ -116,49 +121,49 @@ began_fits asked given log outputs first others output room fit begins parts =
 
 -- `count` writes nothing
 count_write : (why : WriteRefused) (name : List ℕ) (file : List ℕ) (old new : ShelfState)
-    → BreaksOff why name (Count file) old new → ⊥
-count_write why name file old new breaks = breaks.begins.begins
+    → Breaks why name (Count file) old new → ⊥
+count_write why name file old new breaks = breaks.begun
 
 run_output : (asked : Asked) (texts : List (List ℕ)) (outputs first others : List Named)
-    (output : Named) (room : ℕ) → BeginsOutputs (Run asked) texts outputs → NamesFit asked room
+    (output : Named) (room : ℕ) → ScriptsBegan asked texts outputs → NamesFit asked room
     → outputs ≡ first ++ output ∷ others → FitsRoom room output.name
 run_output asked texts outputs first others output room b fit parts =
     began_fits asked _ _ outputs first others output room fit b.begins parts
 
 run_write : (why : WriteRefused) (name : List ℕ) (asked : Asked) (old new : ShelfState) (room : ℕ)
-    → BreaksOff why name (Run asked) old new → NamesFit asked room → WriteHasRoom why name room
+    → Breaks why name (Run asked) old new → NamesFit asked room → WriteHasRoom why name room
 run_write writes.Failed name asked old new room breaks fit =
     let at = breaks.stops.0 in
     subst (λ (n : List ℕ). FitsRoom room n) (sym at.named)
-    (run_output asked breaks.begins.texts breaks.outputs at.first at.others at.output room
-    breaks.begins.begins fit at.parts)
+    (run_output asked breaks.texts breaks.outputs at.first at.others at.output room
+    breaks.begun fit at.parts)
 run_write writes.Memory name asked old new room breaks fit = tt
 
 -- ---- `demo`
 
 demo_output : (n : ℕ) (texts : List (List ℕ)) (outputs first others : List Named)
-    (output : Named) (room : ℕ) → BeginsOutputs (Demo n) texts outputs → NamesFit demo_asked room
+    (output : Named) (room : ℕ) → LoadBegan n outputs → NamesFit demo_asked room
     → outputs ≡ first ++ output ∷ others → FitsRoom room output.name
 demo_output n texts outputs first others output room b fit parts =
     began_fits demo_asked _ _ outputs first others output room fit b.begins parts
 
 demo_write : (why : WriteRefused) (name : List ℕ) (n : ℕ) (old new : ShelfState) (room : ℕ)
-    → BreaksOff why name (Demo n) old new → NamesFit demo_asked room → WriteHasRoom why name room
+    → Breaks why name (Demo n) old new → NamesFit demo_asked room → WriteHasRoom why name room
 demo_write writes.Failed name n old new room breaks fit =
     let at = breaks.stops.0 in
     subst (λ (m : List ℕ). FitsRoom room m) (sym at.named)
-    (demo_output n breaks.begins.texts breaks.outputs at.first at.others at.output room
-    breaks.begins.begins fit at.parts)
+    (demo_output n breaks.texts breaks.outputs at.first at.others at.output room
+    breaks.begun fit at.parts)
 demo_write writes.Memory name n old new room breaks fit = tt
 
 -- ---- `flood`
 
 flood_write : (why : WriteRefused) (name : List ℕ) (asked : FloodAsked) (old new : ShelfState)
-    (room : ℕ) → BreaksOff why name (Flood asked) old new → FitsRoom room asked.out
+    (room : ℕ) → Breaks why name (Flood asked) old new → FitsRoom room asked.out
     → WriteHasRoom why name room
 flood_write writes.Failed name asked old new room breaks fit =
     let at = breaks.stops.0 in
-    let is = breaks.begins.begins.flooded.are in
+    let is = breaks.begun.flooded.are in
     subst (λ (n : List ℕ). FitsRoom room n) (sym at.named)
     (one_fits breaks.outputs at.first at.others at.output room
     (subst (All (NameFits room)) (sym is)
@@ -168,13 +173,13 @@ flood_write writes.Memory name asked old new room breaks fit = tt
 -- ---- `scene`
 
 scene_write : (why : WriteRefused) (name : List ℕ) (asked : SceneAsked) (old new : ShelfState)
-    (room : ℕ) → BreaksOff why name (Scene asked) old new → FitsRoom room asked.out
+    (room : ℕ) → Breaks why name (Scene asked) old new → FitsRoom room asked.out
     → FitsRoom room asked.script → WriteHasRoom why name room
 scene_write writes.Failed name asked old new room breaks fit fits =
     let at = breaks.stops.0 in
-    let is = breaks.begins.begins.placed.are in
+    let is = breaks.begun.placed.are in
     let script : Named =
-    record { name = asked.script; bytes = breaks.begins.begins.placed.script } in
+    record { name = asked.script; bytes = breaks.begun.placed.script } in
     subst (λ (n : List ℕ). FitsRoom room n) (sym at.named)
     (one_fits breaks.outputs at.first at.others at.output room
     (subst (All (NameFits room)) (sym is)
@@ -185,11 +190,11 @@ scene_write writes.Memory name asked old new room breaks fit fits = tt
 -- ---- `dag`
 
 dag_write : (why : WriteRefused) (name : List ℕ) (asked : DagAsked) (old new : ShelfState)
-    (room : ℕ) → BreaksOff why name (Dag asked) old new → FitsRoom room asked.out
+    (room : ℕ) → Breaks why name (Dag asked) old new → FitsRoom room asked.out
     → WriteHasRoom why name room
 dag_write writes.Failed name asked old new room breaks fit =
     let at = breaks.stops.0 in
-    let is = breaks.begins.begins.are in
+    let is = breaks.begun.are in
     subst (λ (n : List ℕ). FitsRoom room n) (sym at.named)
     (one_fits breaks.outputs at.first at.others at.output room
     (subst (All (NameFits room)) (sym is)
@@ -199,13 +204,13 @@ dag_write writes.Memory name asked old new room breaks fit = tt
 -- ---- `look` writes nothing
 
 look_write : (why : WriteRefused) (name : List ℕ) (asked : LookAsked) (old new : ShelfState)
-    → BreaksOff why name (Look asked) old new → ⊥
-look_write why name asked old new breaks = breaks.begins.begins
+    → Breaks why name (Look asked) old new → ⊥
+look_write why name asked old new breaks = breaks.begun
 
 -- ---- whichever command it is
 
 command_write : (why : WriteRefused) (name : List ℕ) (a : Request) (old new : ShelfState)
-    (room : ℕ) → BreaksOff why name a old new → OutputsFit a room → WriteHasRoom why name room
+    (room : ℕ) → Breaks why name a old new → OutputsFit a room → WriteHasRoom why name room
 command_write why name (Count file) old new room breaks fit =
     absurd (count_write why name file old new breaks)
 command_write why name (Run asked) old new room breaks fit =
@@ -220,11 +225,11 @@ command_write why name (Dag asked) old new room breaks fit =
     dag_write why name asked old new room breaks fit
 command_write why name (Look asked) old new room breaks fit =
     absurd (look_write why name asked old new breaks)
-command_write why name (Audit asked) old new room breaks fit = absurd (breaks.begins.begins)
+command_write why name (Audit asked) old new room breaks fit = absurd (breaks.begun)
 
 command_refusal : (r : CommandRefused) (a : Request) (old new : ShelfState) (room : ℕ)
     → HasOutputName r
-    → Outcome (Err r) a old new → OutputsFit a room → RefusalHasRoom r room
+    → Outcome (meaning_of a) (Err r) old new → OutputsFit a room → RefusalHasRoom r room
 command_refusal (Output r) a old new room named outcome fit =
     (command_write r.why (output_name r.name) a old new room outcome fit, named)
 command_refusal (Input r) a old new room named outcome fit = tt

@@ -13,7 +13,7 @@ use Rattle.script_files.specs.declared.refusals.OutputRefused.{OutputRefused}
 use Rattle.script_files.specs.declared.refusals.TextRefused.{TextRefused}
 use Rattle.script_files.specs.declared.refusals.TextRefused.TheVariants.{Vox, Script, Collides, NoScene, NoPlace, StoreFull, NoDag, Journal, Transcript, Memory}
 use Rattle.script_files.specs.declared.requests.Request.{Request}
-use Rattle.script_files.specs.Requests.{inputs_of}
+use Rattle.script_files.specs.Commands.{meaning_of}
 use Rattle.script_files.specs.Closed.{Closed}
 use Rattle.script_files.specs.Outcomes.{BreaksOff, Completes}
 use Rattle.script_files.specs.Refusals.{output_name}
@@ -63,8 +63,8 @@ module _ (a : Request) (left : Option Closed) (old new : Outside) where
   input_told why r is ends puts = record {
     name = r.name.now;
     stops = subst
-        (λ (w : ReadRefused). StopsAt w r.name.now (inputs_of a) old.shelf.files old.shelf.faults
-        new.shelf.faults) is ends.0;
+        (λ (w : ReadRefused). StopsAt w r.name.now (meaning_of a).inputs old.shelf.files
+        old.shelf.faults new.shelf.faults) is ends.0;
     unchanged = ends.1;
     line = subst (λ (w : ReadRefused). Puts old.out.told new.out.told (input_line w r.name.now)) is
         puts;
@@ -93,7 +93,8 @@ module _ (a : Request) (left : Option Closed) (old new : Outside) where
   output_means writes.Failed r is ends puts = record {
     name = output_name r.name;
     breaks = subst
-        (λ (w : WriteRefused). BreaksOff w (output_name r.name) a old.shelf new.shelf) is ends;
+        (λ (w : WriteRefused). BreaksOff w (output_name r.name) (meaning_of a).inputs
+        (meaning_of a).begins old.shelf new.shelf) is ends;
     line = subst
         (λ (w : WriteRefused). Puts old.out.told new.out.told (output_line w (output_name r.name)))
         is puts;
@@ -146,8 +147,9 @@ own : (a : Option Request) (e : Ending) (left : Option Closed) (old new : Outsid
 own None e left old new ends gives puts = unread_means e left old new ends.0 ends.1 puts
 own (Some a) (Completed c) left old new ends gives puts = record {
   done = c.done;
-  completes = subst (λ (l : Option Closed). Completes c.done l a old.shelf new.shelf) (sym gives)
-      ends;
+  completes = subst
+      (λ (l : Option Closed). Completes (meaning_of a) (record { done = c.done; ended = l })
+      old.shelf new.shelf) (sym gives) ends;
   line = puts;
 }
 own (Some a) Usage left old new ends gives puts = absurd ends

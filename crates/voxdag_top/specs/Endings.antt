@@ -13,6 +13,7 @@ use Rattle.script_files.specs.declared.refusals.CommandRefused.TheVariants.{Inpu
 use Rattle.script_files.specs.declared.refusals.TextRefused.{TextRefused}
 use Rattle.script_files.specs.declared.refusals.TextRefused.TheVariants.{Vox, Script, Collides, NoScene, NoPlace, StoreFull, NoDag, Journal, Transcript, Memory}
 use Rattle.script_files.specs.declared.requests.Request.{Request}
+use Rattle.script_files.specs.Commands.{meaning_of}
 use Rattle.script_files.specs.Outcomes.{Outcome}
 use Rattle.script_files.specs.Refusals.{output_name}
 use Rattle.std.proofs.Common.{zero}
@@ -24,9 +25,9 @@ use Rattle.voxdag_top.specs.Lines.{done_line, usage_line, scene_line, no_place_l
 
 -- an ending of a command
 abbrev pub CommandEnds : Ending → Request → ShelfState → ShelfState → Type 0
-CommandEnds (Completed c) a old new = Outcome (Ok c) a old new
+CommandEnds (Completed c) a old new = Outcome (meaning_of a) (Ok c) old new
 CommandEnds Usage a old new = ⊥
-CommandEnds (Refused r) a old new = Outcome (Err r) a old new
+CommandEnds (Refused r) a old new = Outcome (meaning_of a) (Err r) old new
 
 -- words outside the grammar are told, unless memory was wanted before all of them were read
 abbrev pub EndsUnread : Ending → Type 0

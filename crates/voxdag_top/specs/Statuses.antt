@@ -16,7 +16,7 @@ use Rattle.script_files.specs.Closed.{Closed}
 use Rattle.script_files.specs.declared.tallies.Done.{Done}
 use Rattle.node_words.specs.declared.shares.Full.{Full}
 use Rattle.script_files.specs.declared.requests.Request.{Request}
-use Rattle.script_files.specs.Requests.{inputs_of}
+use Rattle.script_files.specs.Commands.{meaning_of}
 use Rattle.script_files.specs.Outcomes as outcomes
 use Rattle.voxdag_top.specs.Lines.{usage_line, input_line, write_fault_line, memory_line, done_line, Puts, PutsBeginning}
 use Rattle.voxdag_top.specs.Numbers.{Status, Finished, Misuse, MissingInput, FailedInput, FaultyVox, FaultyScript, FailedOutput, FailedLine, LackingMemory, LongInput, NoSuchPlace, FaultyScene, FaultyJournal, FilledStore, FaultyDag, FaultyTranscript, status_number}
@@ -27,7 +27,8 @@ use Rattle.voxdag_top.specs.Endings.{EndsAs, ending_line, text_line, MayLackLine
 
 pub record CommandDone (a : Request) (ended : Option Closed) (old new : Outside) : Type 0 where
   pub done : Done
-  pub completes : outcomes.Completes done ended a old.shelf new.shelf
+  pub completes : outcomes.Completes (meaning_of a) (record { done = done; ended = ended })
+      old.shelf new.shelf
   pub line : Puts old.out.told new.out.told (done_line done)
 
 -- and the closed world is the run's, where scripts ran
@@ -35,13 +36,20 @@ abbrev pub CameToEnd : Option Request → Option Closed → Outside → Outside 
 CameToEnd None ended old new = ⊥
 CameToEnd (Some a) ended old new = CommandDone a ended old new
 
+-- ---- all inputs were taken, and their texts are refused for this
+
+abbrev pub RefusesText : TextRefused → Option Request → Option Files → Type 0
+RefusesText r None files = ⊥
+RefusesText r (Some a) files =
+    outcomes.TextsRefused r (meaning_of a).inputs (meaning_of a).refuses files
+
 -- ---- the words are outside the grammar, or all inputs are accepted and a name of an output is
 -- taken
 
 abbrev pub IsUnusable : Option Request → ShelfState → ShelfState → Type 0
 IsUnusable None old new = new ≡ old
 IsUnusable (Some a) old new =
-    outcomes.TextsRefused texts.Collides a old.files × KeepsFiles old new
+    RefusesText texts.Collides (Some a) old.files × KeepsFiles old new
 
 pub record Unusable (a : Option Request) (old new : Outside) : Type 0 where
   pub cause : IsUnusable a old.shelf new.shelf
@@ -52,7 +60,8 @@ pub record Unusable (a : Option Request) (old new : Outside) : Type 0 where
 abbrev pub StopsOn : ReadRefused → List ℕ → Option Request → ShelfState → ShelfState
     → Type 0
 StopsOn why name None old new = ⊥
-StopsOn why name (Some a) old new = StopsAt why name (inputs_of a) old.files old.faults new.faults
+StopsOn why name (Some a) old new =
+    StopsAt why name (meaning_of a).inputs old.files old.faults new.faults
 
 pub record InputTold (why : ReadRefused) (a : Option Request) (old new : Outside) : Type 0 where
   pub name : List ℕ
@@ -60,11 +69,7 @@ pub record InputTold (why : ReadRefused) (a : Option Request) (old new : Outside
   pub unchanged : new.shelf.files ≡ old.shelf.files
   pub line : Puts old.out.told new.out.told (input_line why name)
 
--- ---- all inputs were taken, and their texts are refused for this; no file has changed
-
-abbrev pub RefusesText : TextRefused → Option Request → Option Files → Type 0
-RefusesText r None files = ⊥
-RefusesText r (Some a) files = outcomes.TextsRefused r a files
+-- ---- the texts are refused for this, and no file has changed
 
 pub record TextTold (r : TextRefused) (a : Option Request) (old new : Outside) : Type 0 where
   pub refuses : RefusesText r a old.shelf.files
@@ -75,7 +80,8 @@ pub record TextTold (r : TextRefused) (a : Option Request) (old new : Outside) :
 
 abbrev pub BreaksOn : List ℕ → Option Request → ShelfState → ShelfState → Type 0
 BreaksOn name None old new = ⊥
-BreaksOn name (Some a) old new = outcomes.BreaksOff writes.Failed name a old new
+BreaksOn name (Some a) old new =
+    outcomes.BreaksOff writes.Failed name (meaning_of a).inputs (meaning_of a).begins old new
 
 pub record WriteFailed (a : Option Request) (old new : Outside) : Type 0 where
   pub name : List ℕ

@@ -1,22 +1,22 @@
 -- Which status must come, for what the words ask of a shelf that tells its files.
-use Rattle.std.specs.Prelude.{◌≡◌, ◌⊎◌, ℕ, Option, Some, None, ⊤}
+use Rattle.std.specs.Prelude.{◌≡◌, ◌⊎◌, ℕ, List, false, Option, Some, None}
 use Rattle.vw_io.specs.Outside.{Files}
 use Rattle.script_files.specs.declared.requests.Request.{Request}
-use Rattle.script_files.specs.declared.requests.Request.TheVariants.{Flood, Dag, Audit}
 use Rattle.script_files.specs.Verdicts.{Verdict, Fine, LacksInput, InputIsLong, HasVoxFault, HasScriptFault, NamesCollide, HasNoPlace, HasSceneFault, HasDagFault, HasJournalFault, HasTranscriptFault}
-use Rattle.script_files.specs.Verdicts as commands
+use Rattle.script_files.specs.declared.refusals.TextRefused.TheVariants.{StoreFull}
+use Rattle.script_files.specs.Commands.{meaning_of}
+use Rattle.script_files.specs.Judging as commands
+use Rattle.node_words.specs.declared.shares.Full.{Full}
 use Rattle.voxdag_top.specs.Numbers.{Status, Finished, Misuse, MissingInput, FaultyVox, FaultyScript, LongInput, NoSuchPlace, FaultyScene, FaultyJournal, FilledStore, FaultyDag, FaultyTranscript, IsOr, status_number}
 
 -- whether it asks for texts alone of which it is computed what they say: not for a journal
 abbrev pub ReadsNoJournal : Request → Type 0
-ReadsNoJournal (Dag asked) = ⊥
-ReadsNoJournal (Audit asked) = ⊥
-ReadsNoJournal _ = ⊤
+ReadsNoJournal a = (meaning_of a).journal ≡ false
 
 -- the first thing that is wrong with the inputs and the names, if anything is
 abbrev pub JudgesWords : Option Request → Files → Verdict → Type 0
 JudgesWords None files v = ⊥
-JudgesWords (Some a) files v = commands.Judges files a v
+JudgesWords (Some a) files v = commands.Judges (meaning_of a) files v
 
 abbrev pub status_for : Verdict → Status
 status_for Fine = Finished
@@ -31,13 +31,12 @@ status_for (HasDagFault place) = FaultyDag
 status_for HasJournalFault = FaultyJournal
 status_for HasTranscriptFault = FaultyTranscript
 
--- where nothing is wrong the status is 0, or 7 or 8, and of a command with a store of its own it
--- may be 13
+-- where nothing is wrong the status is 0, or 7 or 8, and of a command with a store of its own,
+-- which some texts can fill, it may be 13
 abbrev pub HasStore : Option Request → Type 0
-HasStore (Some (Flood asked)) = ⊤
-HasStore (Some (Dag asked)) = ⊤
-HasStore (Some (Audit asked)) = ⊤
-HasStore _ = ⊥
+HasStore None = ⊥
+HasStore (Some a) =
+    (texts : List (List ℕ)) × (full : Full) × (meaning_of a).refuses texts (StoreFull full)
 
 abbrev pub MayCome : Option Request → Verdict → ℕ → Type 0
 MayCome a v result =

@@ -1,9 +1,8 @@
 use Rattle.std.proofs.Common.{rules, ◌≡◌, ◌≤◌, ap}
 use Rattle.vw_io.specs.Inputs.{AreTaken}
 use Rattle.vw_io.specs.Outputs.{StopsWith}
-use Rattle.script_files.specs.declared.requests.Request.TheVariants.{Dag}
 use Rattle.script_files.specs.Refusals.{output_name}
-use Rattle.script_files.specs.Requests.{inputs_of}
+use Rattle.script_files.specs.Dags.{dag_inputs}
 use Rattle.script_files.proofs.Dagging.{dag_output, dag_stopped}
 use Rattle.script_files.proofs.dags.dag_file.Goals as goal
 
@@ -16,7 +15,7 @@ returns-clause-outcome g c =
     let old = g.S.Shelf.state c.args.shelf.now in
     let mid = g.S.Shelf.state c.read_all.new.shelf in
     let new = g.S.Shelf.state c.write_all.new.shelf in
-    let taken : AreTaken old.files (inputs_of (Dag asked)) texts = search rules in
+    let taken : AreTaken old.files (dag_inputs asked) texts = search rules in
     let stops : StopsWith r.why r.name.now (dag_output asked dag) mid.files new.files mid.faults
     new.faults = search rules in
     dag_stopped asked texts dag r.why r.name.now c.from.result old mid new taken

@@ -1,11 +1,10 @@
-use Rattle.std.proofs.Common.{rules, ◌≡◌, ◌≤◌, ap}
+use Rattle.std.proofs.Common.{rules, ◌≡◌, ◌≤◌, [], ◌∷◌, ap}
 use Rattle.vw_io.specs.Inputs.{AreTaken}
 use Rattle.vw_io.specs.Outputs.{StopsWith}
-use Rattle.script_files.specs.declared.requests.Request.TheVariants.{Flood}
 use Rattle.script_files.specs.Floods.{FloodsText}
 use Rattle.script_files.specs.Meanings.{file_in}
 use Rattle.script_files.specs.Refusals.{output_name}
-use Rattle.script_files.specs.Requests.{inputs_of}
+use Rattle.script_files.specs.Requests.{vox_input}
 use Rattle.script_files.proofs.Flooding.{region_output, flood_stopped}
 use Rattle.script_files.proofs.floods.flood_file.Goals as goal
 
@@ -19,7 +18,7 @@ returns-clause-outcome g c =
     let old = g.S.Shelf.state c.args.shelf.now in
     let mid = g.S.Shelf.state c.read_all.new.shelf in
     let new = g.S.Shelf.state c.write_all.new.shelf in
-    let taken : AreTaken old.files (inputs_of (Flood asked)) texts = search rules in
+    let taken : AreTaken old.files (vox_input asked.file ∷ []) texts = search rules in
     let floods : FloodsText asked (file_in texts) region.cells region.file.items = search rules in
     let stops : StopsWith r.why r.name.now (region_output asked region.file.items) mid.files
     new.files mid.faults new.faults = search rules in

@@ -5,10 +5,9 @@ use Rattle.conformance.specs.sessions.Kept.{kept_of}
 use Rattle.conformance.specs.sessions.Ran.{SessionsRanKeeping}
 use Rattle.world_run.specs.declared.runs.ScriptsRun.{ScriptsRun}
 use Rattle.script_files.specs.Orders.{Asked}
-use Rattle.script_files.specs.Requests.{inputs_of}
+use Rattle.script_files.specs.Requests.{run_inputs}
 use Rattle.script_files.specs.Scripts.{AreFitScripts}
 use Rattle.script_files.specs.Stages.{ReadsInputs, StopsRun, WroteRun}
-use Rattle.script_files.specs.declared.requests.Request.TheVariants.{Run}
 use Rattle.script_files.specs.declared.scripts.Read.{Read}
 use Rattle.script_files.proofs.Ending.{run_written, run_stopped}
 use Rattle.script_files.proofs.runs.run_files.Goals as goal
@@ -22,7 +21,7 @@ returns-in-Ok-write_run-clause-outcome g c =
     let old = g.S.Shelf.state c.args.shelf.now in
     let mid = g.S.Shelf.state c.read_all.new.shelf in
     let new = g.S.Shelf.state c.write_run.new.shelf in
-    let taken : AreTaken old.files (inputs_of (Run asked)) texts = search rules in
+    let taken : AreTaken old.files (run_inputs asked) texts = search rules in
     let is_read : ReadsInputs asked texts read = search rules in
     let ran : SessionsRanKeeping c.order.inside.keep c.order.inside.tint c.order.inside.plan
     read.models 0 read.scripts.items run.transcripts.items run.run.sessions = search rules in
@@ -45,10 +44,10 @@ returns-in-Ok-write_run-clause-outcome g c =
     search rules in
     let same : mid.files ≡ old.files = search rules in
     let grown : old.faults ≤ mid.faults = search rules in
-    let wrote : WroteRun asked run c.in-Ok-write_run.written.tally c.in-Ok-write_run.written.ended
-    mid new = search rules in
+    let written = c.in-Ok-write_run.written in
+    let wrote : WroteRun asked run written.tally written.ended mid new = search rules in
     run_written asked texts read run old mid new taken is_read asked_ran plan_is tint_is
-    models_are kept fits same grown c.in-Ok-write_run.written.tally c.in-Ok-write_run.written.ended wrote
+    models_are kept fits same grown written wrote
 
 pub returns-clause-outcome : goal.returns-clause-outcome
 returns-clause-outcome g c =
@@ -59,7 +58,7 @@ returns-clause-outcome g c =
     let old = g.S.Shelf.state c.args.shelf.now in
     let mid = g.S.Shelf.state c.read_all.new.shelf in
     let new = g.S.Shelf.state c.write_run.new.shelf in
-    let taken : AreTaken old.files (inputs_of (Run asked)) texts = search rules in
+    let taken : AreTaken old.files (run_inputs asked) texts = search rules in
     let is_read : ReadsInputs asked texts read = search rules in
     let ran : SessionsRanKeeping c.order.inside.keep c.order.inside.tint c.order.inside.plan
     read.models 0 read.scripts.items run.transcripts.items run.run.sessions = search rules in

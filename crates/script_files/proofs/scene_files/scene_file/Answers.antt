@@ -1,10 +1,9 @@
-use Rattle.std.proofs.Common.{rules, ◌≡◌, ◌≤◌, ap}
+use Rattle.std.proofs.Common.{rules, ◌≡◌, ◌≤◌, [], ◌∷◌, ap}
 use Rattle.vw_io.specs.Inputs.{AreTaken}
 use Rattle.vw_io.specs.Outputs.{StopsWith}
-use Rattle.script_files.specs.declared.requests.Request.TheVariants.{Scene}
 use Rattle.script_files.specs.Meanings.{file_in}
 use Rattle.script_files.specs.Refusals.{output_name}
-use Rattle.script_files.specs.Requests.{inputs_of}
+use Rattle.script_files.specs.Requests.{vox_input}
 use Rattle.script_files.specs.Scenes.{PlacesText}
 use Rattle.script_files.proofs.Placing.{scene_outputs, scene_stopped}
 use Rattle.script_files.proofs.scene_files.scene_file.Goals as goal
@@ -18,7 +17,7 @@ returns-clause-outcome g c =
     let old = g.S.Shelf.state c.args.shelf.now in
     let mid = g.S.Shelf.state c.read_all.new.shelf in
     let new = g.S.Shelf.state c.write_all.new.shelf in
-    let taken : AreTaken old.files (inputs_of (Scene asked)) texts = search rules in
+    let taken : AreTaken old.files (vox_input asked.file ∷ []) texts = search rules in
     let places : PlacesText (file_in texts) placed.tally placed.models.items placed.script.items =
     search rules in
     let stops : StopsWith r.why r.name.now

@@ -1,7 +1,7 @@
 -- The file, and the scripts before this one.
 use Rattle.std.proofs.Common.{◌≡◌, ◌∷◌, take, map}
 use Rattle.script_files.specs.Requests.{vox_limit, script_input}
-use Rattle.script_files.proofs.runs.inputs_of.Given as goal
+use Rattle.script_files.proofs.runs.run_inputs.Given as goal
 
 abbrev pub invariant-loop-script : goal.invariant-loop-script
 invariant-loop-script l =
