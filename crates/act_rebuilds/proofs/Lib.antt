@@ -1,5 +1,6 @@
 pub mod StampActs
 pub mod PlainActs
+pub mod MakerLaws
 pub mod TintedActs
 pub mod ListLaws
 pub mod Rooms

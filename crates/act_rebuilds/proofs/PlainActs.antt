@@ -5,7 +5,7 @@ use Rattle.vox_read.specs.Contents.{Content}
 use Rattle.node_words.specs.declared.shapes.names.Name.{Name}
 use Rattle.node_words.specs.shapes.Shape.{Shape, IsPart}
 use Rattle.node_words.specs.declared.shares.Full.{Full}
-use Rattle.node_words.specs.Held.{Seen}
+use Rattle.node_words.specs.Held.{StoreState}
 use Rattle.node_words.specs.Gathering.{Grows, Fails}
 use Rattle.node_words.proofs.GatherLaws.{grew_into}
 use Rattle.history_model.specs.declared.acts.Act.{Act}
@@ -57,7 +57,7 @@ part_once (Tint t) e = no_tint e
 part_once Undo e = omega arith
 part_once Redo e = omega arith
 
-module _ (old new : Seen) (side : ℕ) (root : Option Name) (models : List Content) (act : Act)
+module _ (old new : StoreState) (side : ℕ) (root : Option Name) (models : List Content) (act : Act)
     (e : suits_tints false act ≡ true) where
   wanted : (before : World) (s : Shape)
       → IsPart s (world_shape (side - 2) (edited models act before))
@@ -105,13 +105,13 @@ module _ (old new : Seen) (side : ℕ) (root : Option Name) (models : List Conte
       fails_by before full.level full.bucket (edits before shows)
 
 -- of an act that is this one
-pub one_makes : (old new : Seen) (side : ℕ) (root : Option Name) (models : List Content)
+pub one_makes : (old new : StoreState) (side : ℕ) (root : Option Name) (models : List Content)
     (act one : Act) (result : Result (Option Name) Full) → act ≡ one
     → MakesAct old side root models one result new → MakesAct old side root models act result new
 one_makes old new side root models act one result is h =
     subst (λ (a : Act). MakesAct old side root models a result new) (sym is) h
 
-pub edit_makes : (old new : Seen) (side : ℕ) (root : Option Name) (models : List Content)
+pub edit_makes : (old new : StoreState) (side : ℕ) (root : Option Name) (models : List Content)
     (act one : Act) (result : Result (Option Name) Full) → act ≡ one
     → suits_tints false one ≡ true → Edits old side root (edited models one) result new
     → MakesAct old side root models act result new

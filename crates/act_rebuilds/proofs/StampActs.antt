@@ -7,7 +7,7 @@ use Rattle.vw_cell.specs.Places.{FitsAt}
 use Rattle.vox_read.specs.Contents.{Content}
 use Rattle.node_words.specs.declared.shapes.names.Name.{Name}
 use Rattle.node_words.specs.declared.shares.Full.{Full}
-use Rattle.node_words.specs.Held.{Seen}
+use Rattle.node_words.specs.Held.{StoreState}
 use Rattle.history_model.specs.Logs.{FitsModel, FitsWorld}
 use Rattle.history_model.specs.Worlds.{World, edited}
 use Rattle.history_model.specs.declared.acts.Act.{Act}
@@ -31,7 +31,7 @@ stamped_as models m drawn at d = λ i before.
     one_world (stamped drawn at before) (edited models (Stamp m at) before)
     (λ c. stamps_model models m d.model drawn at before c d.is_there d.draws) i
 
-module _ (old new : Seen) (side : ℕ) (root : Option Name) (models : List Content) (act : Act)
+module _ (old new : StoreState) (side : ℕ) (root : Option Name) (models : List Content) (act : Act)
     (m : ℕ) (at : Cell) (drawn : Drawn) (result : Result (Option Name) Full)
     (is : act ≡ Stamp m at) (d : DrawsNumber models m drawn) where
   pub stamp_makes : Edits old side root (stamped drawn at) result new

@@ -7,7 +7,7 @@ use Rattle.vw_cell.specs.Places.{FitsAt}
 use Rattle.vox_read.specs.Contents.{Content}
 use Rattle.node_words.specs.declared.shapes.names.Name.{Name}
 use Rattle.node_words.specs.declared.shares.Full.{Full}
-use Rattle.node_words.specs.Held.{Seen}
+use Rattle.node_words.specs.Held.{StoreState}
 use Rattle.history_model.specs.declared.acts.Act.{Act}
 use Rattle.history_model.specs.declared.acts.Act.TheVariants as acts
 use Rattle.history_model.specs.declared.acts.TintAct.{TintAct}
@@ -32,7 +32,7 @@ parts_as side models t stencil large ink =
     ∙ ap (λ (n : ℕ). part n (ink_of models t) t)
     (sym (quarter_is side (2 ^ side) (omega (arith, large)) refl))
 
-pub tints_make : (old new : Seen) (side : ℕ) (root : Option Name) (models : List Content)
+pub tints_make : (old new : StoreState) (side : ℕ) (root : Option Name) (models : List Content)
     (t : TintAct) (stencil : Option Inked) → 4 ≤ side → HasInk models t stencil
     → (result : Result (Option Name) Full)
     → MakesParts old side root (parts_in (2 ^ (side - 2)) t stencil) (part_number t) result new

@@ -2,7 +2,11 @@
 use Rattle.std.specs.Prelude.{◌≡◌, ℕ, Bool, true, false, List, Option, Some, None, All, ⊤}
 use Rattle.std.specs.List.{slice_get}
 use Rattle.vw_cell.specs.declared.cells.Cell.{Cell}
+use Rattle.vw_cell.specs.Places.{FitsAt}
 use Rattle.vox_read.specs.Contents.{Content}
+use Rattle.history_model.specs.declared.acts.Act.{Act}
+use Rattle.history_model.specs.declared.acts.Act.TheVariants.{Stamp, Tint}
+use Rattle.history_model.specs.declared.acts.TintAct.TheVariants as tints
 use Rattle.edit_stamp.specs.Drawings.{Drawn, Draws}
 use Rattle.colour.specs.Planes.{TintsPlaces}
 
@@ -31,3 +35,14 @@ pub record DrawsNumber (models : List Content) (number : ℕ) (cells : Drawn) : 
 abbrev pub size_of : Option Content → Option Cell
 size_of None = None
 size_of (Some model) = Some model.size
+
+-- a model of this size, where there is one, stands at this place within so many cells an axis
+abbrev pub SizeFits : ℕ → Option Cell → Cell → Type 0
+SizeFits n None at = ⊥
+SizeFits n (Some size) at = FitsAt at size n
+
+-- the act puts a model down
+abbrev pub stamps_model : Act → Bool
+stamps_model (Stamp m at) = true
+stamps_model (Tint (tints.Stamp m at)) = true
+stamps_model other = false

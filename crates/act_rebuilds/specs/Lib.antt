@@ -1,5 +1,6 @@
 pub mod Acts
 pub mod Drawn
+pub mod Recalling
 pub mod questions
 pub use Rattle.edit_stamp.specs.Drawings
 pub use Rattle.edit_copy.specs.Copies

@@ -1,1 +1,1 @@
-pub mod TellsRoots
+pub mod AnswersByRoots

@@ -54,6 +54,11 @@ impl<B: Lends + Drop> DrawnList<B> {
         }
     }
 
+    // What its lists take memory from.
+    pub(crate) fn allocator(&self) -> Global {
+        *self.cells.allocator()
+    }
+
     // One model more, which is drawn.
     fn add(&mut self, alloc: Global, from: B) -> Result<(), Memory>
         requires { IsModel (B.lent from) }

@@ -3,15 +3,15 @@
 //!
 //! It reads a store, changes nothing in it and takes no memory; `tints_in` of `colour`, which takes
 //! memory for a list, is passed on. Which answer tells what is asked
-//! of a root, with tints or without, is said in `specs/questions/TellsRoots.antt`, in the terms of
-//! `conformance` (`specs/questions/Telling.antt` there).
+//! of a root, with tints or without, is said in `specs/questions/AnswersByRoots.antt`, in the terms
+//! of `conformance` (`specs/QuestionAnswers.antt` there).
 
 ghost use Rattle.std.specs.Prelude.{◌≡◌, ◌^◌, true, option_copied};
 ghost use Rattle.node_words.specs.descent.Roots.{HoldsRoot};
 ghost use Rattle.conformance.specs.Fitting.{QuestionFits};
 ghost use Rattle.conformance.specs.Kinds.{is_resting};
 ghost use Rattle.vw_cell.specs.Sums.{one_if};
-ghost use Rattle.act_rebuilds.specs.questions.TellsRoots.{TellsRoot};
+ghost use Rattle.act_rebuilds.specs.questions.AnswersByRoots.{AnswersByRoot};
 
 use history_model::Question;
 use measure::{bounds, count, faces, get};
@@ -23,7 +23,7 @@ use vw_cell::Side;
 mod tinted;
 
 pub use colour::tints_in;
-pub use tinted::tell_tinted;
+pub use tinted::answer_tinted;
 
 /// Answers what is asked of the root's world, the empty one where there is no root.
 pub fn tell<B: Blocks>(
@@ -34,7 +34,7 @@ pub fn tell<B: Blocks>(
 ) -> Answer
     requires root { HoldsRoot (B.seen store.old).held side (option_copied root) }
     requires fits { QuestionFits (2 ^ side) question }
-    ensures tells { TellsRoot (B.seen store.old).held side (option_copied root.entry) question
+    ensures tells { AnswersByRoot (B.seen store.old).held side (option_copied root.entry) question
         result }
     ensures resting { is_resting result ≡ true }
     ensures seen { B.seen store.new ≡ B.seen store.old }

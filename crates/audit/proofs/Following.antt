@@ -21,9 +21,9 @@ use Rattle.store_run.specs.declared.replaying.ReplayRefused.TheVariants as repla
 use Rattle.audit.specs.declared.audits.AuditRefused.{AuditRefused}
 use Rattle.audit.specs.declared.audits.AuditRefused.TheVariants as refusals
 use Rattle.audit.specs.Audits.{RefusesAlong}
-use Rattle.audit.specs.declared.replaying.Ways.{Ways}
+use Rattle.audit.specs.declared.replaying.UndoTargets.{UndoTargets}
 use Rattle.audit.specs.Marks.{TellsMarks}
-use Rattle.audit.specs.Replaying.{IsFollowing, FollowEach, AreWays, Steps, FreeBy, RefusesNext, ways_at}
+use Rattle.audit.specs.Replaying.{IsFollowing, FollowEach, AreUndoTargets, Steps, FreeBy, RefusesNext, undo_targets_at}
 use Rattle.audit.proofs.Marking.{held_is}
 
 -- ---- where it goes
@@ -194,7 +194,7 @@ last_or_less n i lt = by_order (cases_order n i)
     by_order (inr (inl less)) = inl less
     by_order (inr (inr more)) = absurd (omega (arith, lt, more))
 
-get_or_last : (ways : List Ways) (w d : Ways) → get_or (ways ++ w ∷ []) (length ways) d ≡ w
+get_or_last : (ways : List UndoTargets) (w d : UndoTargets) → get_or (ways ++ w ∷ []) (length ways) d ≡ w
 get_or_last [] w d = refl
 get_or_last (v ∷ more) w d = get_or_last more w d
 
@@ -218,15 +218,15 @@ follows_more side models marks before r so_far following =
 -- how far the replay has come
 pub record HasReplayed (side : ℕ) (models : List Content) (marks : List Mark)
     (records : List Record)
-    (i : ℕ) (replayed : List Record) (ways : List Ways) : Type 0 where
+    (i : ℕ) (replayed : List Record) (ways : List UndoTargets) : Type 0 where
   pub are : replayed ≡ take i records
   pub follow : FollowEach side models marks replayed
   pub as_many : length ways ≡ i
-  pub each : (n : ℕ) (d : Ways) → n < i → get_or ways n d ≡ ways_at records n
+  pub each : (n : ℕ) (d : UndoTargets) → n < i → get_or ways n d ≡ undo_targets_at records n
 
 ways_same : (records replayed : List Record) (i : ℕ) → replayed ≡ take i records
     → i ≤ length records
-    → ways_at replayed (length replayed) ≡ ways_at records i
+    → undo_targets_at replayed (length replayed) ≡ undo_targets_at records i
 ways_same records replayed i are le =
     let all : take (length replayed) replayed ≡ take i records =
     take_all (length replayed) replayed (omega arith) ∙ are in
@@ -248,23 +248,23 @@ replayed_none side models marks records replayed is = record {
   each = λ n d lt. absurd (omega (arith, lt));
 }
 
-each_more : (records : List Record) (ways : List Ways) (i : ℕ) (w : Ways) → length ways ≡ i
-    → ((n : ℕ) (d : Ways) → n < i → get_or ways n d ≡ ways_at records n) → w ≡ ways_at records i
-    → (n : ℕ) (d : Ways) → n < i + 1 → get_or (ways ++ w ∷ []) n d ≡ ways_at records n
+each_more : (records : List Record) (ways : List UndoTargets) (i : ℕ) (w : UndoTargets) → length ways ≡ i
+    → ((n : ℕ) (d : UndoTargets) → n < i → get_or ways n d ≡ undo_targets_at records n) → w ≡ undo_targets_at records i
+    → (n : ℕ) (d : UndoTargets) → n < i + 1 → get_or (ways ++ w ∷ []) n d ≡ undo_targets_at records n
 each_more records ways i w long each is n d lt =
     by_cases (λ (less : n < i). get_or_append_left ways (w ∷ []) d n (omega (arith, long, less))
     ∙ each n d less)
     (λ (same : n ≡ i).
     ap (λ (k : ℕ). get_or (ways ++ w ∷ []) k d) (same ∙ sym long) ∙ get_or_last ways w d
-    ∙ is ∙ ap (ways_at records) (sym same))
+    ∙ is ∙ ap (undo_targets_at records) (sym same))
     (last_or_less n i lt)
 
 pub replayed_more : (side : ℕ) (models : List Content) (marks : List Mark)
     (records replayed now : List Record)
-    (i : ℕ) (ways : List Ways) (w : Ways) (r d : Record)
+    (i : ℕ) (ways : List UndoTargets) (w : UndoTargets) (r d : Record)
     → HasReplayed side models marks records i replayed ways → i < length records
     → r ≡ get_or records i d
-    → w ≡ ways_at replayed (length replayed) → IsFollowing side models marks replayed r
+    → w ≡ undo_targets_at replayed (length replayed) → IsFollowing side models marks replayed r
     → now ≡ replayed ++ r ∷ [] → HasReplayed side models marks records (i + 1) now (ways ++ w ∷ [])
 replayed_more side models marks records replayed now i ways w r d so_far lt is told following more =
     record {
@@ -279,7 +279,7 @@ replayed_more side models marks records replayed now i ways w r d so_far lt is t
 
 pub replayed_stop : (side : ℕ) (models : List Content) (marks : List Mark)
     (records replayed : List Record)
-    (i : ℕ) (ways : List Ways) (r d : Record)
+    (i : ℕ) (ways : List UndoTargets) (r d : Record)
     → HasReplayed side models marks records i replayed ways
     → i < length records → r ≡ get_or records i d → (IsFollowing side models marks replayed r → ⊥)
     → FollowEach side models marks records → ⊥
@@ -302,9 +302,9 @@ replayed_stop side models marks records replayed i ways r d so_far lt is wrong a
 
 pub replayed_all : (side : ℕ) (models : List Content) (marks : List Mark)
     (records replayed : List Record)
-    (i : ℕ) (ways : List Ways) (w : Ways) → HasReplayed side models marks records i replayed ways
-    → i ≡ length records → w ≡ ways_at replayed (length replayed)
-    → FollowEach side models marks records × AreWays records (ways ++ w ∷ []) × (replayed ≡ records)
+    (i : ℕ) (ways : List UndoTargets) (w : UndoTargets) → HasReplayed side models marks records i replayed ways
+    → i ≡ length records → w ≡ undo_targets_at replayed (length replayed)
+    → FollowEach side models marks records × AreUndoTargets records (ways ++ w ∷ []) × (replayed ≡ records)
 replayed_all side models marks records replayed i ways w so_far is told =
     let all : take i records ≡ records = take_all i records (omega (arith, is)) in
     let same : replayed ≡ records = so_far.are ∙ all in (
@@ -334,7 +334,7 @@ any_record = record {
 
 -- what a record that can follow the first ones needs behind them is needed along all
 pub filled_along : (p : Layout) (models : List Content) (marks : List Mark)
-    (records replayed : List Record) (i : ℕ) (ways : List Ways)
+    (records replayed : List Record) (i : ℕ) (ways : List UndoTargets)
     (r d : Record) (full : Full) → HasReplayed (2 ^ p.side) models marks records i replayed ways
     → i < length records → length records ≤ 65535
     → r ≡ get_or records i d → IsFollowing (2 ^ p.side) models marks replayed r
@@ -361,7 +361,7 @@ filled_along p models marks records replayed i ways r d full so_far lt few is fo
     }
 
 pub refused_along : (p : Layout) (s : ReplayState) (models : List Content) (marks : List Mark)
-    (records now : List Record) (i : ℕ) (ways : List Ways)
+    (records now : List Record) (i : ℕ) (ways : List UndoTargets)
     (r d : Record) (refused : AuditRefused) → s.plan ≡ p → s.models ≡ models
     → HasReplayed (2 ^ p.side) models marks records i s.records ways
     → i < length records → length records ≤ 65535 → r ≡ get_or records i d

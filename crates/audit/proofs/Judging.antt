@@ -14,19 +14,19 @@ use Rattle.conformance.specs.Agreeing.{AgreesKeeping}
 use Rattle.audit.specs.declared.audits.AuditRefused.{AuditRefused}
 use Rattle.audit.specs.Audits.{IsAudited, RefusesAlong}
 use Rattle.store_run.specs.Replaying.{ReplayState}
-use Rattle.audit.specs.declared.replaying.Ways.{Ways}
+use Rattle.audit.specs.declared.replaying.UndoTargets.{UndoTargets}
 use Rattle.audit.specs.Reruns.{IsRerun}
 use Rattle.audit.specs.Marks.{TellsMarks}
-use Rattle.audit.specs.Replaying.{FollowEach, AreWays}
+use Rattle.audit.specs.Replaying.{FollowEach, AreUndoTargets}
 
 pub no_follow : (models : List Content) (log : Log)
     → (FollowEach (2 ^ log.side) models log.marks log.records → ⊥)
     → IsLegal (2 ^ log.side) models log → ⊥
 no_follow models log wrong legal = wrong (record { fit = legal.fit; follow = legal.follow })
 
-pub legal_rerun : (log : Log) (replay : ReplayState) (ways : List Ways) (table : List (Option Mark))
+pub legal_rerun : (log : Log) (replay : ReplayState) (ways : List UndoTargets) (table : List (Option Mark))
     → replay.tint ≡ log.coloured → replay.records ≡ log.records → replay.plan.side ≡ log.side
-    → length log.records ≤ 65535 → AreWays log.records ways → TellsMarks log.marks table
+    → length log.records ≤ 65535 → AreUndoTargets log.records ways → TellsMarks log.marks table
     → IsRerun log replay ways table
 legal_rerun log replay ways table tint records side few are tells = record {
   tint = tint;

@@ -18,13 +18,13 @@ use Rattle.transcript.specs.declared.answers.Answer.{Answer}
 use Rattle.transcript.specs.declared.answers.Answer.TheVariants as answers
 use Rattle.vw_cell.specs.declared.boxes.Boxed.{Boxed}
 use Rattle.vw_cell.specs.Counts.{number_in}
-use Rattle.conformance.specs.Answers.{IsForgotten, IsReadable, IsRecordOf, mark_of, target_at, HasWay, asked_version, Names, LooksUp}
-use Rattle.conformance.specs.Telling.{Tells}
+use Rattle.conformance.specs.Answers.{IsForgotten, IsReadable, IsRecordOf, mark_of, target_at, HasReadableTarget, asked_version, Names, LooksUp}
+use Rattle.conformance.specs.QuestionAnswers.{AnswersTo}
 
 -- the answer tells what the question asks of a version
-abbrev pub TellsVersion : List Content → Log → ℕ → Question → Answer → Type 0
-TellsVersion models log v question answer =
-    Tells (world_side log) (world_has models log.records v) (world_tint models log.records v)
+abbrev pub AnswersVersion : List Content → Log → ℕ → Question → Answer → Type 0
+AnswersVersion models log v question answer =
+    AnswersTo (world_side log) (world_has models log.records v) (world_tint models log.records v)
     question answer
 
 -- two versions have the same tints
@@ -76,7 +76,7 @@ SameIs Head P = ⊥
 
 -- ---- by the answer
 
-module _ (p : Layout) (models : List Content) (log : Log) (Stands : ℕ → Type 0)
+module _ (p : Layout) (models : List Content) (log : Log) (Unforgotten : ℕ → Type 0)
     (session line n : ℕ) where
   abbrev pub DoneFits : Command → Type 0
   DoneFits command = EditIs command (λ act once. IsRecordOf log.records n session line act)
@@ -85,30 +85,30 @@ module _ (p : Layout) (models : List Content) (log : Log) (Stands : ℕ → Type
   ForgotFits command v =
       ForgetIs command (λ u. (u ≡ v) × Contains log.marks (mark_of v n session line))
 
-  abbrev pub ToldFits : Command → Answer → Type 0
-  ToldFits command answer = AskIs command (λ version question.
-      IsReadable Stands n (asked_version version n)
-      × TellsVersion models log (asked_version version n) question answer)
+  abbrev pub AnsweredFits : Command → Answer → Type 0
+  AnsweredFits command answer = AskIs command (λ version question.
+      IsReadable Unforgotten n (asked_version version n)
+      × AnswersVersion models log (asked_version version n) question answer)
 
   abbrev pub SavedFits : Command → ℕ → Type 0
   SavedFits command cells = SaveIs command (λ version part.
-      IsReadable Stands n (asked_version version n)
+      IsReadable Unforgotten n (asked_version version n)
       × (cells ≡ number_in part (world_has models log.records (asked_version version n))))
 
   abbrev pub SameFits : Command → Bool → Type 0
   SameFits command same = SameIs command (λ v w.
-      IsReadable Stands n v × IsReadable Stands n w
+      IsReadable Unforgotten n v × IsReadable Unforgotten n w
       × MatchBool same (AreSame models log v w) (AreSame models log v w → ⊥))
 
   abbrev pub HeadFits : Command → Type 0
   HeadFits command = command ≡ Head
 
   abbrev pub NoVersionFits : Command → ℕ → Type 0
-  NoVersionFits command v = Names Stands n command v × (n < v)
+  NoVersionFits command v = Names Unforgotten n command v × (n < v)
 
   abbrev pub ForgottenFits : Command → ℕ → Type 0
   ForgottenFits command v =
-      LooksUp Stands log.records n command v × IsForgotten log.marks session line n v
+      LooksUp Unforgotten log.records n command v × IsForgotten log.marks session line n v
 
   abbrev pub IsHeadFits : Command → Type 0
   IsHeadFits command = ForgetIs command (λ v. v ≡ n)
@@ -119,7 +119,7 @@ module _ (p : Layout) (models : List Content) (log : Log) (Stands : ℕ → Type
 
   abbrev pub LogFullFits : Command → Type 0
   LogFullFits command =
-      EditIs command (λ act once. (n ≡ 65535) × HasWay Stands log.records n act)
+      EditIs command (λ act once. (n ≡ 65535) × HasReadableTarget Unforgotten log.records n act)
 
   abbrev pub StaleFits : Command → ℕ → Type 0
   StaleFits command base =
@@ -132,12 +132,12 @@ module _ (p : Layout) (models : List Content) (log : Log) (Stands : ℕ → Type
   abbrev pub FitsBy : Command → Answer → Type 0
   FitsBy command answers.Done = DoneFits command
   FitsBy command (answers.Forgot v) = ForgotFits command v
-  FitsBy command (answers.Is set) = ToldFits command (answers.Is set)
-  FitsBy command (answers.Colour tint) = ToldFits command (answers.Colour tint)
-  FitsBy command (answers.Count cells) = ToldFits command (answers.Count cells)
-  FitsBy command (answers.Faces faces) = ToldFits command (answers.Faces faces)
-  FitsBy command (answers.Extent least) = ToldFits command (answers.Extent least)
-  FitsBy command (answers.Hit found) = ToldFits command (answers.Hit found)
+  FitsBy command (answers.Is set) = AnsweredFits command (answers.Is set)
+  FitsBy command (answers.Colour tint) = AnsweredFits command (answers.Colour tint)
+  FitsBy command (answers.Count cells) = AnsweredFits command (answers.Count cells)
+  FitsBy command (answers.Faces faces) = AnsweredFits command (answers.Faces faces)
+  FitsBy command (answers.Extent least) = AnsweredFits command (answers.Extent least)
+  FitsBy command (answers.Hit found) = AnsweredFits command (answers.Hit found)
   FitsBy command (answers.Same same) = SameFits command same
   FitsBy command answers.Head = HeadFits command
   FitsBy command (answers.Saved cells) = SavedFits command cells

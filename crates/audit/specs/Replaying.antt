@@ -10,7 +10,7 @@ use Rattle.conformance.specs.Answers.{target_at}
 use Rattle.store_run.specs.Replaying.{ReplayState, MayFillReplay}
 use Rattle.audit.specs.declared.audits.AuditRefused.{AuditRefused}
 use Rattle.audit.specs.declared.audits.AuditRefused.TheVariants as refusals
-use Rattle.audit.specs.declared.replaying.Ways.{Ways}
+use Rattle.audit.specs.declared.replaying.UndoTargets.{UndoTargets}
 use Rattle.audit.specs.Marks.{HeldBy}
 
 -- the record comes behind these, and no mark forbids it
@@ -26,16 +26,17 @@ pub record FollowEach (side : ℕ) (models : List Content) (marks : List Mark)
   pub follow : MayFollowFrom marks 1 beginning records
 
 -- the versions that an undo goes back to after so many records, and a redo on to
-abbrev pub ways_at : List Record → ℕ → Ways
-ways_at records n = record {
+abbrev pub undo_targets_at : List Record → ℕ → UndoTargets
+undo_targets_at records n = record {
   undo = target_at records n Undo;
   redo = target_at records n Redo;
 }
 
 -- they are told for each number of records
-pub record AreWays (records : List Record) (ways : List Ways) : Type 0 where
+pub record AreUndoTargets (records : List Record) (ways : List UndoTargets) : Type 0 where
   pub as_many : length ways ≡ length records + 1
-  pub each : (n : ℕ) (d : Ways) → n ≤ length records → slice_index_or ways n d ≡ ways_at records n
+  pub each : (n : ℕ) (d : UndoTargets) → n ≤ length records
+      → slice_index_or ways n d ≡ undo_targets_at records n
 
 -- what comes of a record, behind these
 abbrev pub Steps : ℕ → List Content → List Mark → List Record → Record → Result Bool AuditRefused

@@ -5,7 +5,7 @@ ghost use Rattle.history_model.specs.declared.acts.Act.TheVariants.{Undo, Redo};
 ghost use Rattle.script.specs.Fitting.{CommandFits};
 ghost use Rattle.script.specs.declared.commands.Command.TheVariants.{Head};
 ghost use Rattle.transcript.specs.declared.answers.Answer.TheVariants as answers;
-ghost use Rattle.conformance.specs.Answers.{IsReadable, IsStanding, HasWay, Names, LooksUp, mark_of, target_at};
+ghost use Rattle.conformance.specs.Answers.{IsReadable, IsUnforgotten, HasReadableTarget, Names, LooksUp, mark_of, target_at};
 ghost use Rattle.audit.specs.Reruns.{IsRerun};
 ghost use Rattle.audit.specs.Fitting.{EditIs, ForgetIs, FitsBy};
 
@@ -90,10 +90,12 @@ impl<L: Ledger> Rerun<L> {
         requires rerun { IsRerun log.now self.now.replay self.now.ways.items self.now.table.items }
         requires there { n ≤ length log.now.records }
         ensures { IsTrue result ↔ EditIs command.now (λ act once. (n ≡ 65535)
-            × HasWay (IsStanding log.now.marks session line n) log.now.records n act) }
+            × HasReadableTarget
+            (IsUnforgotten log.now.marks session line n) log.now.records n act) }
     {
         match command {
-            Command::Edit { act, .. } => n == 65_535 && self.has_way(log, session, line, n, *act),
+            Command::Edit { act, .. } => n == 65_535
+                && self.has_readable_target(log, session, line, n, *act),
             Command::Forget(_) => false,
             Command::Ask { .. } => false,
             Command::Save { .. } => false,
@@ -103,11 +105,11 @@ impl<L: Ledger> Rerun<L> {
     }
 
     // Whether an undo or a redo has a version to go to that can be read.
-    fn has_way(&self, log: &History, session: u16, line: u32, n: u32, act: Act) -> bool
+    fn has_readable_target(&self, log: &History, session: u16, line: u32, n: u32, act: Act) -> bool
         requires rerun { IsRerun log.now self.now.replay self.now.ways.items self.now.table.items }
         requires there { n ≤ length log.now.records }
         ensures { IsTrue result
-            ↔ HasWay (IsStanding log.now.marks session line n) log.now.records n act }
+            ↔ HasReadableTarget (IsUnforgotten log.now.marks session line n) log.now.records n act }
     {
         if lines::is_edit(act) {
             return true;
@@ -130,7 +132,7 @@ impl<L: Ledger> Rerun<L> {
     ) -> bool
         requires { IsRerun log.now self.now.replay self.now.ways.items self.now.table.items }
         ensures { IsTrue result
-            ↔ Names (IsStanding log.now.marks session line n) n command.now v }
+            ↔ Names (IsUnforgotten log.now.marks session line n) n command.now v }
     {
         match command {
             Command::Forget(u) => *u == v,
@@ -164,7 +166,7 @@ impl<L: Ledger> Rerun<L> {
     ) -> bool
         requires { IsRerun log.now self.now.replay self.now.ways.items self.now.table.items }
         ensures { IsTrue result ↔ ((u ≡ v)
-            ⊎ ((w ≡ v) × IsReadable (IsStanding log.now.marks session line n) n u)) }
+            ⊎ ((w ≡ v) × IsReadable (IsUnforgotten log.now.marks session line n) n u)) }
     {
         if u == v {
             return true;
@@ -185,7 +187,7 @@ impl<L: Ledger> Rerun<L> {
         requires rerun { IsRerun log.now self.now.replay self.now.ways.items self.now.table.items }
         requires there { n ≤ length log.now.records }
         ensures { IsTrue result
-            ↔ LooksUp (IsStanding log.now.marks session line n) log.now.records n command.now v }
+            ↔ LooksUp (IsUnforgotten log.now.marks session line n) log.now.records n command.now v }
     {
         match command {
             Command::Edit { act, .. } => self.target(log, n, *act) == Some(v),

@@ -7,11 +7,11 @@ ghost use Rattle.history_model.specs.declared.questions.Question.TheVariants as 
 ghost use Rattle.script.specs.Fitting.{CommandFits};
 ghost use Rattle.script.specs.declared.commands.Command.TheVariants.{Head};
 ghost use Rattle.transcript.specs.declared.answers.Answer.TheVariants as answers;
-ghost use Rattle.conformance.specs.Answers.{IsReadable, IsStanding, LineFits, asked_version};
+ghost use Rattle.conformance.specs.Answers.{IsReadable, IsUnforgotten, LineFits, asked_version};
 ghost use Rattle.std.specs.Bool.{MatchBool};
 ghost use Rattle.vw_cell.specs.Places.{FitsAt};
 ghost use Rattle.audit.specs.Reruns.{IsRerun};
-ghost use Rattle.audit.specs.Fitting.{FitsBy, ToldFits, SavedFits, SameFits, AreSame};
+ghost use Rattle.audit.specs.Fitting.{FitsBy, AnsweredFits, SavedFits, SameFits, AreSame};
 
 use crate::lines;
 use crate::reruns::Rerun;
@@ -62,18 +62,18 @@ impl<L: Ledger> Rerun<L> {
         requires fits { CommandFits log.now.coloured (2 ^ log.now.side) self.old.replay.models
             command.now }
         ensures fits { IsTrue result ↔ FitsBy judged.now self.old.replay.models log.now
-            (IsStanding log.now.marks session line n) session line n command.now answer }
+            (IsUnforgotten log.now.marks session line n) session line n command.now answer }
         ensures same { self.new ≡ self.old }
     {
         match answer {
             Answer::Done => lines::done_fits(log, session, line, n, command),
             Answer::Forgot(v) => self.forgot_fits(log, session, line, n, command, v),
-            Answer::Is(_) => self.told_fits(log, judged, session, line, n, command, answer),
-            Answer::Colour(_) => self.told_fits(log, judged, session, line, n, command, answer),
-            Answer::Count(_) => self.told_fits(log, judged, session, line, n, command, answer),
-            Answer::Faces(_) => self.told_fits(log, judged, session, line, n, command, answer),
-            Answer::Extent(_) => self.told_fits(log, judged, session, line, n, command, answer),
-            Answer::Hit(_) => self.told_fits(log, judged, session, line, n, command, answer),
+            Answer::Is(_) => self.answered_fits(log, judged, session, line, n, command, answer),
+            Answer::Colour(_) => self.answered_fits(log, judged, session, line, n, command, answer),
+            Answer::Count(_) => self.answered_fits(log, judged, session, line, n, command, answer),
+            Answer::Faces(_) => self.answered_fits(log, judged, session, line, n, command, answer),
+            Answer::Extent(_) => self.answered_fits(log, judged, session, line, n, command, answer),
+            Answer::Hit(_) => self.answered_fits(log, judged, session, line, n, command, answer),
             Answer::Same(same) => self.same_fits(log, judged, session, line, n, command, same),
             Answer::Head => head_fits(command),
             Answer::Saved(cells) => self.saved_fits(log, judged, session, line, n, command, cells),
@@ -92,7 +92,7 @@ impl<L: Ledger> Rerun<L> {
     }
 
     // What a question is answered.
-    fn told_fits(
+    fn answered_fits(
         &mut self,
         log: &History,
         judged: &Plan,
@@ -106,8 +106,8 @@ impl<L: Ledger> Rerun<L> {
         requires there { n ≤ length log.now.records }
         requires fits { CommandFits log.now.coloured (2 ^ log.now.side) self.old.replay.models
             command.now }
-        ensures fits { IsTrue result ↔ ToldFits judged.now self.old.replay.models log.now
-            (IsStanding log.now.marks session line n) session line n command.now answer }
+        ensures fits { IsTrue result ↔ AnsweredFits judged.now self.old.replay.models log.now
+            (IsUnforgotten log.now.marks session line n) session line n command.now answer }
         ensures same { self.new ≡ self.old }
     {
         match command {
@@ -140,7 +140,7 @@ impl<L: Ledger> Rerun<L> {
         requires fits { CommandFits log.now.coloured (2 ^ log.now.side) self.old.replay.models
             command.now }
         ensures fits { IsTrue result ↔ SavedFits judged.now self.old.replay.models log.now
-            (IsStanding log.now.marks session line n) session line n command.now cells }
+            (IsUnforgotten log.now.marks session line n) session line n command.now cells }
         ensures same { self.new ≡ self.old }
     {
         match command {
@@ -184,7 +184,7 @@ impl<L: Ledger> Rerun<L> {
         requires rerun { IsRerun log.now self.now.replay self.now.ways.items self.now.table.items }
         requires there { n ≤ length log.now.records }
         ensures { IsTrue result ↔ SameFits judged.now self.now.replay.models log.now
-            (IsStanding log.now.marks session line n) session line n command.now same }
+            (IsUnforgotten log.now.marks session line n) session line n command.now same }
     {
         match command {
             Command::Same(v, w) => {

@@ -136,7 +136,7 @@ fn audit_over<L: Ledger>(
 
 // The marks of the versions, where the records are few, the marks legal, and each act lies in the
 // world.
-fn marks_told(
+fn marks_by_version(
     alloc: Global,
     log: &History,
     models: &Models,
@@ -178,7 +178,7 @@ fn run_again<L: Ledger>(
     ensures refused { IfErr result
         (RefusesAlong replayed.now models log.now.marks log.now.records) }
 {
-    match marks_told(alloc, log, &models) {
+    match marks_by_version(alloc, log, &models) {
         Ok(Some(table)) => run_over(alloc, log, models, replayed, blank, table),
         Ok(None) => Ok(None),
         Err(_) => Err(AuditRefused::Memory),

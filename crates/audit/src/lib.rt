@@ -8,6 +8,7 @@
 
 mod answering;
 mod audits;
+mod comparing_answers;
 mod counts;
 mod fits;
 mod judges;
@@ -17,9 +18,8 @@ mod marks;
 mod replaying;
 mod reruns;
 mod sessions;
-mod telling;
 
 pub use audits::AuditRefused;
 pub use judges::audit;
 pub use laws::{answers_are_told, counts_are_enough, questions_have_one_answer, runs_are_audited};
-pub use replaying::Ways;
+pub use replaying::UndoTargets;

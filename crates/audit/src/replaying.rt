@@ -5,7 +5,7 @@ ghost use Rattle.history_model.specs.Logs.{FitsWorld, suits_tints};
 ghost use Rattle.audit.specs.Marks.{TellsMarks};
 ghost use Rattle.store_run.specs.Replaying.{MakesOnlyParts};
 ghost use Rattle.audit.specs.Audits.{RefusesAlong};
-ghost use Rattle.audit.specs.Replaying.{FollowEach, AreWays, Steps, FreeBy, RefusesNext, ways_at};
+ghost use Rattle.audit.specs.Replaying.{FollowEach, AreUndoTargets, Steps, FreeBy, RefusesNext, undo_targets_at};
 
 use crate::audits::AuditRefused;
 use crate::marks::{is_held, mark_of};
@@ -16,7 +16,7 @@ use store_run::{Replay, ReplayRefused};
 
 /// The versions that an undo goes back to and a redo goes on to, after some number of records.
 #[derive(Clone, Copy, Debug, PartialEq, Eq)]
-pub struct Ways {
+pub struct UndoTargets {
     pub undo: Option<u32>,
     pub redo: Option<u32>,
 }
@@ -27,7 +27,7 @@ pub(crate) fn replay_all<L: Ledger>(
     replay: &mut Replay<L>,
     records: &[Record],
     table: &[Option<Mark>],
-) -> Result<Option<Vec<Ways>>, AuditRefused>
+) -> Result<Option<Vec<UndoTargets>>, AuditRefused>
     requires empty { replay.old.records ≡ [] }
     requires few { length records.now ≤ 65535 }
     requires suits { All (λ r. suits_tints replay.old.tint r.act ≡ true) records.now }
@@ -45,11 +45,11 @@ pub(crate) fn replay_all<L: Ledger>(
         (λ ways. MatchOption ways
         (FollowEach (2 ^ s.plan.side) s.models marks records.now → ⊥)
         (λ w. FollowEach (2 ^ s.plan.side) s.models marks records.now
-        × AreWays records.now w.items × (replay.new.records ≡ records.now))) }
+        × AreUndoTargets records.now w.items × (replay.new.records ≡ records.now))) }
 {
     let mut ways = Vec::new(alloc);
     for record in records {
-        if ways.push(ways_now(replay)).is_err() {
+        if ways.push(undo_targets_now(replay)).is_err() {
             return Err(AuditRefused::Memory);
         }
         match step(replay, *record, table) {
@@ -58,16 +58,16 @@ pub(crate) fn replay_all<L: Ledger>(
             Err(refused) => return Err(refused),
         }
     }
-    if ways.push(ways_now(replay)).is_err() {
+    if ways.push(undo_targets_now(replay)).is_err() {
         return Err(AuditRefused::Memory);
     }
     Ok(Some(ways))
 }
 
-fn ways_now<L: Ledger>(replay: &Replay<L>) -> Ways
-    ensures { result ≡ ways_at replay.now.records (length replay.now.records) }
+fn undo_targets_now<L: Ledger>(replay: &Replay<L>) -> UndoTargets
+    ensures { result ≡ undo_targets_at replay.now.records (length replay.now.records) }
 {
-    Ways {
+    UndoTargets {
         undo: replay.target(Act::Undo),
         redo: replay.target(Act::Redo),
     }

@@ -5,14 +5,14 @@ ghost use Rattle.vw_cell.specs.Counts.{number_in};
 ghost use Rattle.history_model.specs.Logs.{world_side};
 ghost use Rattle.script.specs.Fitting.{QuestionFits};
 ghost use Rattle.vw_cell.specs.Places.{FitsAt};
-ghost use Rattle.conformance.specs.Answers.{IsStanding, IsReadable, IsForgotten, target_at, mark_of};
+ghost use Rattle.conformance.specs.Answers.{IsUnforgotten, IsReadable, IsForgotten, target_at, mark_of};
 ghost use Rattle.retain.specs.Retained.{KeepsLast};
-ghost use Rattle.audit.specs.Fitting.{TellsVersion, AreSame};
+ghost use Rattle.audit.specs.Fitting.{AnswersVersion, AreSame};
 ghost use Rattle.audit.specs.Reruns.{IsRerun};
 
+use crate::comparing_answers::is_told;
 use crate::marks;
-use crate::replaying::Ways;
-use crate::telling::is_told;
+use crate::replaying::UndoTargets;
 use history_model::{Act, History, Mark, Question};
 use std::sync::ledger::Ledger;
 use store_run::Replay;
@@ -22,7 +22,7 @@ use transcript::Answer;
 #[derive(Drop)]
 pub(crate) struct Rerun<L: Ledger> {
     pub(crate) replay: Replay<L>,
-    pub(crate) ways: Vec<Ways>,
+    pub(crate) ways: Vec<UndoTargets>,
     pub(crate) table: Vec<Option<Mark>>,
 }
 
@@ -39,7 +39,7 @@ impl<L: Ledger> Rerun<L> {
     ) -> bool
         requires { IsRerun log.now self.now.replay self.now.ways.items self.now.table.items }
         ensures { IsTrue result
-            ↔ IsReadable (IsStanding log.now.marks session line n) n version }
+            ↔ IsReadable (IsUnforgotten log.now.marks session line n) n version }
     {
         version <= n
             && marks::stands(
@@ -139,7 +139,7 @@ impl<L: Ledger> Rerun<L> {
         requires rerun { IsRerun log.now self.old.replay self.old.ways.items self.old.table.items }
         requires there { version ≤ length log.now.records }
         requires fits { QuestionFits (world_side log.now) question }
-        ensures tells { IsTrue result ↔ TellsVersion self.old.replay.models log.now version
+        ensures tells { IsTrue result ↔ AnswersVersion self.old.replay.models log.now version
             question answer }
         ensures same { self.new ≡ self.old }
     {

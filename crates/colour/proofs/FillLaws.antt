@@ -11,7 +11,7 @@ use Rattle.node_words.specs.declared.shapes.names.Name.{Name}
 use Rattle.node_words.specs.shapes.Shape.{Shape, IsPart, has}
 use Rattle.node_words.specs.shapes.Tree.{Tree, shape_of}
 use Rattle.node_words.specs.declared.shares.Full.{Full}
-use Rattle.node_words.specs.Held.{Seen, AreTrees, AreCanonical}
+use Rattle.node_words.specs.Held.{StoreState, AreTrees, AreCanonical}
 use Rattle.node_words.proofs.GatherLaws.{grew_into}
 use Rattle.node_words.proofs.OfDescent.LookLaws.{root_side}
 use Rattle.node_words.specs.contents.CellShapes.{Cells, SameIn}
@@ -125,7 +125,7 @@ module _ {P T : Type 0} (task_of : P → ℕ → Option Name → T) (makes : T �
 
 -- ---- what one edit left is what the parts leave that make it
 
-module _ (old new : Seen) (side : ℕ) (root : Option Name) (parts : ℕ → World → World) (number : ℕ)
+module _ (old new : StoreState) (side : ℕ) (root : Option Name) (parts : ℕ → World → World) (number : ℕ)
     (some : 1 ≤ number) where
   as_parts : (before : World) (s : Shape)
       → IsPart s (world_shape (side - 2) (after_parts parts number before))
@@ -219,7 +219,7 @@ ball_planes held side planes small =
 -- ---- which acts these are
 
 -- what was made by these parts was made by those of the act
-pub parts_made : (old new : Seen) (side : ℕ) (root : Option Name) (act : TintAct)
+pub parts_made : (old new : StoreState) (side : ℕ) (root : Option Name) (act : TintAct)
     (stencil : Option Inked) (parts : ℕ → World → World) (number : ℕ)
     (result : Result (Option Name) Full) → parts_in (2 ^ (side - 2)) act stencil ≡ parts
     → part_number act ≡ number → MakesParts old side root parts number result new
@@ -230,7 +230,7 @@ parts_made old new side root act stencil parts number result same count made =
     (subst (λ (p : ℕ → World → World). MakesParts old side root p number result new) (sym same)
     made)
 
-module _ (old new : Seen) (side : ℕ) (root : Option Name) (act : TintAct) (stencil : Option Inked)
+module _ (old new : StoreState) (side : ℕ) (root : Option Name) (act : TintAct) (stencil : Option Inked)
     (edit : CellEdit) (result : Result (Option Name) Full)
     (same : parts_in (2 ^ (side - 2)) act stencil ≡ cell_parts (2 ^ (side - 2)) edit)
     (nine : part_number act ≡ 9) where

@@ -13,7 +13,7 @@ use Rattle.node_words.specs.declared.shapes.names.Name.{Name}
 use Rattle.node_words.specs.shapes.Shape.{Shape, bit_number, octant_shape}
 use Rattle.node_words.specs.shapes.Tree.{Tree, child_of, shape_of}
 use Rattle.node_words.proofs.OfShapes.TreeLaws.{shape_of-child}
-use Rattle.node_words.specs.Held.{Seen}
+use Rattle.node_words.specs.Held.{StoreState}
 use Rattle.node_words.specs.descent.Roots.{IsBlockOf, IsOctantOf, ForBlock, cells_of}
 use Rattle.node_words.specs.descent.Parts.{EndsBy}
 use Rattle.node_words.proofs.OfDescent.LookLaws.{root_side, same_cell}
@@ -27,7 +27,7 @@ use Rattle.colour.proofs.PlaceLaws.{in_octants}
 
 -- ---- one plane
 
-pub bit_layer : (a b c : Seen) (side level bit : ℕ) (root name half block : Option Name)
+pub bit_layer : (a b c : StoreState) (side level bit : ℕ) (root name half block : Option Name)
     (words : List ℕ) (box : Boxed) (layer : ℕ) → 4 ≤ side → level ≡ side - 2 → name ≡ root → b ≡ a
     → c ≡ b → IsOctantOf a.held level name 1 half → IsOctantOf b.held (level - 1) half bit block
     → ForBlock c.held (level - 2) block
@@ -41,11 +41,11 @@ bit_layer a b c side level bit root name half block words box layer large is_lev
     (subst (λ (m : Option Name). IsBlockOf a.held (side - 2) m t) (sym n) o) in
     let low : IsBlockOf b.held (level - 1 - 1) block (child_of (child_of t 1) bit) =
     second (child_of t 1)
-    (subst (λ (s : Seen). IsBlockOf s.held (level - 1) half (child_of t 1)) (sym same)
+    (subst (λ (s : StoreState). IsBlockOf s.held (level - 1) half (child_of t 1)) (sym same)
     (first t top)) in
     let down : level - 1 - 1 ≡ level - 2 = omega arith in
     let at : IsBlockOf c.held (level - 2) block (child_of (child_of t 1) bit) =
-    subst (λ (s : Seen). IsBlockOf s.held (level - 2) block (child_of (child_of t 1) bit))
+    subst (λ (s : StoreState). IsBlockOf s.held (level - 2) block (child_of (child_of t 1) bit))
     (sym again)
     (subst (λ (l : ℕ). IsBlockOf b.held l block (child_of (child_of t 1) bit)) down low) in
     let quarter : level - 2 ≡ side - 2 - 2 = omega arith in

@@ -13,7 +13,7 @@ use Rattle.edit_walk.specs.cells.Paints.{whole_of_old}
 use Rattle.edit_walk.proofs.OfCells.PaintLaws.{old_block, old_has, paints_octant, paints_missed}
 use Rattle.colour.specs.declared.walks.TintTask.{TintTask}
 use Rattle.colour.specs.declared.walks.TintTask.TheVariants.{Plane}
-use Rattle.colour.specs.Walks.{MakesKept, MakesRow, Octants, first_octants, bit_octants, root_octants, makes_tint}
+use Rattle.colour.specs.Walks.{LeavesBlock, MakesRow, Octants, first_octants, bit_octants, root_octants, makes_tint}
 
 -- ---- a row of octants
 
@@ -35,14 +35,14 @@ row_octant octants old child base held level cells k lt keeps m is =
 
 root_rest : {P T : Type 0} (task_of : P → ℕ → Option Name → T) (makes : T → Making) (planes : P)
     (k : ℕ) (old : Option Name) (base : List Tree) (level : ℕ) (cells : Cells) → k ≢ 0 → k ≢ 1
-    → root_octants task_of makes planes k old base level cells → MakesKept old base level cells
+    → root_octants task_of makes planes k old base level cells → LeavesBlock old base level cells
 root_rest task_of makes planes zero old base level cells first second m = absurd (first refl)
 root_rest task_of makes planes (suc zero) old base level cells first second m = absurd (second refl)
 root_rest task_of makes planes (suc (suc k)) old base level cells first second m = m
 
 first_rest : {P T : Type 0} (task_of : P → ℕ → Option Name → T) (makes : T → Making)
     (planes : P) (k : ℕ) (old : Option Name) (base : List Tree) (level : ℕ) (cells : Cells) → k ≢ 0
-    → first_octants task_of makes planes k old base level cells → MakesKept old base level cells
+    → first_octants task_of makes planes k old base level cells → LeavesBlock old base level cells
 first_rest task_of makes planes zero old base level cells first m = absurd (first refl)
 first_rest task_of makes planes (suc k) old base level cells first m = m
 
@@ -68,7 +68,7 @@ module _ {P T : Type 0} (task_of : P → ℕ → Option Name → T) (makes : T �
       (row_octant (root_octants task_of makes planes) old child base held level cells k lt keeps m is)
 
   pub root_other : k ≢ 0 → k ≢ 1 → MakesRow (root_octants task_of makes planes) old base level cells
-      → MakesKept child base (level - 1) (octant_cells (level - 1) cells k)
+      → LeavesBlock child base (level - 1) (octant_cells (level - 1) cells k)
   root_other first second m =
       root_rest task_of makes planes k child base (level - 1) (octant_cells (level - 1) cells k)
       first second
@@ -85,7 +85,7 @@ module _ {P T : Type 0} (task_of : P → ℕ → Option Name → T) (makes : T �
       is))
 
   pub first_other : k ≢ 0 → MakesRow (first_octants task_of makes planes) old base level cells
-      → MakesKept child base (level - 1) (octant_cells (level - 1) cells k)
+      → LeavesBlock child base (level - 1) (octant_cells (level - 1) cells k)
   first_other first m =
       first_rest task_of makes planes k child base (level - 1) (octant_cells (level - 1) cells k)
       first
@@ -104,14 +104,14 @@ module _ {P T : Type 0} (task_of : P → ℕ → Option Name → T) (makes : T �
 -- ---- blocks of which nothing changes
 
 pub kept_has : (old : Option Name) (base held : List Tree) (level : ℕ) (cells : Cells)
-    → Keeps base held → MakesKept old base level cells → HasBlock held level old
+    → Keeps base held → LeavesBlock old base level cells → HasBlock held level old
 kept_has old base held level cells keeps m =
     old_has base held level m.paints.tree old keeps m.paints.is_old
 
 pub kept_octant : (old child : Option Name) (base held : List Tree) (level : ℕ) (cells : Cells)
-    (k : ℕ) → 1 ≤ level → k < 8 → Keeps base held → MakesKept old base level cells
+    (k : ℕ) → 1 ≤ level → k < 8 → Keeps base held → LeavesBlock old base level cells
     → IsOctantOf held level old k child
-    → MakesKept child base (level - 1) (octant_cells (level - 1) cells k)
+    → LeavesBlock child base (level - 1) (octant_cells (level - 1) cells k)
 kept_octant old child base held level cells k one lt keeps m is =
     record {
       small = omega (arith, m.small);
@@ -122,14 +122,14 @@ kept_octant old child base held level cells k one lt keeps m is =
     }
 
 pub kept_whole : (old : Option Name) (base : List Tree) (level : ℕ) (cells : Cells) (whole : Whole)
-    → whole ≡ whole_of_old old → MakesKept old base level cells → IsWhole base level cells whole
+    → whole ≡ whole_of_old old → LeavesBlock old base level cells → IsWhole base level cells whole
 kept_whole old base level cells whole e m =
     subst (λ (w : Whole). IsWhole base level cells w) (sym e)
     (paints_missed base level old false no_cells cells (record { each = λ x y z p q r. refl })
     m.paints)
 
 pub kept_bits : (old : Option Name) (base held : List Tree) (cells : Cells) (bits : ℕ)
-    → Keeps base held → MakesKept old base 0 cells
+    → Keeps base held → LeavesBlock old base 0 cells
     → ForBlock held 0 old (λ s. bits ≡ bits_of s) → SameIn 0 (has 0 (Leaf bits)) cells
 unfolding has
 kept_bits old base held cells bits keeps m read =

@@ -23,7 +23,7 @@ use Rattle.history_model.specs.Planes.{plane_at, plane_box}
 use Rattle.core_laws.proofs.OfTints.PlaneLaws.{bool_false}
 use Rattle.colour.specs.declared.walks.TintTask.TheVariants.{Root}
 use Rattle.colour.proofs.PlaceLaws.{inner_below}
-use Rattle.colour.specs.Walks.{MakesKept, MakesRow, first_octants, bit_octants, root_octants, makes_tint, CellEdit, MakesPlanes}
+use Rattle.colour.specs.Walks.{LeavesBlock, MakesRow, first_octants, bit_octants, root_octants, makes_tint, CellEdit, MakesPlanes}
 
 -- ---- places by octants
 
@@ -157,7 +157,7 @@ child_is_old held level t old k o =
 -- a block in which the world stays the same
 kept_made : (held : List Tree) (level : ℕ) (t : Tree) (old : Option Name) (before after : Cells)
     → level ≤ 10 → IsOld held level t old → SameIn level (has level (shape_of t)) before
-    → SameIn level after before → MakesKept old held level after
+    → SameIn level after before → LeavesBlock old held level after
 kept_made held level t old before after small o shows same =
     record {
       small = small;

@@ -19,7 +19,7 @@ use Rattle.colour.specs.declared.walks.TintTask.{TintTask}
 use Rattle.colour.specs.declared.walks.TintTask.TheVariants.{Root, Cells as First, Bits, Kept, Plane}
 
 -- the block stays as it was
-pub record MakesKept (old : Option Name) (base : List Tree) (level : ℕ) (cells : Cells)
+pub record LeavesBlock (old : Option Name) (base : List Tree) (level : ℕ) (cells : Cells)
     : Type 0 where
   pub small : level ≤ 10
   pub paints : Paints base level old false no_cells cells
@@ -41,7 +41,7 @@ pub record MakesRow (octants : Octants) (old : Option Name) (base : List Tree) (
 -- octant 0 of the root has plane 0 as its octant 0
 abbrev pub first_octants : {P T : Type 0} → (P → ℕ → Option Name → T) → (T → Making) → P → Octants
 first_octants task_of makes planes zero old = makes (task_of planes 0 old)
-first_octants task_of makes planes (suc k) old = MakesKept old
+first_octants task_of makes planes (suc k) old = LeavesBlock old
 
 -- octant 1 has the planes of the bits
 abbrev pub bit_octants : {P T : Type 0} → (P → ℕ → Option Name → T) → (T → Making) → P → Octants
@@ -51,7 +51,7 @@ bit_octants task_of makes planes k old = makes (task_of planes (suc k) old)
 abbrev pub root_octants : {P T : Type 0} → (P → ℕ → Option Name → T) → (T → Making) → P → Octants
 root_octants task_of makes planes zero old = MakesRow (first_octants task_of makes planes) old
 root_octants task_of makes planes (suc zero) old = MakesRow (bit_octants task_of makes planes) old
-root_octants task_of makes planes (suc (suc k)) old = MakesKept old
+root_octants task_of makes planes (suc (suc k)) old = LeavesBlock old
 
 -- what each task makes
 abbrev pub makes_tint : {P T : Type 0} → (P → ℕ → Option Name → T) → (T → Making)
@@ -59,14 +59,14 @@ abbrev pub makes_tint : {P T : Type 0} → (P → ℕ → Option Name → T) →
 makes_tint task_of makes (Root old planes) = MakesRow (root_octants task_of makes planes) old
 makes_tint task_of makes (First old planes) = MakesRow (first_octants task_of makes planes) old
 makes_tint task_of makes (Bits old planes) = MakesRow (bit_octants task_of makes planes) old
-makes_tint task_of makes (Kept old) = MakesKept old
+makes_tint task_of makes (Kept old) = LeavesBlock old
 makes_tint task_of makes (Plane task) = makes task
 
 -- ---- it stays so while more is held
 
 kept_lasts : (old : Option Name) (base more : List Tree) (level : ℕ) (cells : Cells)
-    → OneEach more → Keeps base more → MakesKept old base level cells
-    → MakesKept old more level cells
+    → OneEach more → Keeps base more → LeavesBlock old base level cells
+    → LeavesBlock old more level cells
 kept_lasts old base more level cells one k m = record {
   small = m.small;
   paints = paints_last base more level old false no_cells cells one k m.paints;

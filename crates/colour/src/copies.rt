@@ -1,7 +1,7 @@
 ghost use Rattle.std.specs.Prelude.{◌-◌, ◌^◌, ◌<◌, ◌≤◌, ℕ, suc, Option, option_copied};
 ghost use Rattle.vw_cell.specs.Places.{FitsAt};
 ghost use Rattle.node_words.specs.declared.shapes.names.Name.{Name};
-ghost use Rattle.node_words.specs.Held.{Seen};
+ghost use Rattle.node_words.specs.Held.{StoreState};
 ghost use Rattle.edit_walk.specs.Edits.{MayEdit, Edits};
 ghost use Rattle.history_model.specs.Worlds.{copied};
 ghost use Rattle.colour.specs.Made.{MakesParts, PartsMade, copy_parts, made_at};
@@ -59,7 +59,7 @@ fn next_part<N: NodeStore, L: Ledger>(
     requires plane { plane < 9 }
     requires from { FitsAt b.at b.size (2 ^ (side - 2)) }
     requires to { FitsAt to b.size (2 ^ (side - 2)) }
-    ensures made { (first : Seen) (root : Option Name)
+    ensures made { (first : StoreState) (root : Option Name)
         → PartsMade first side root (copy_parts side b to) plane now (N.seen store.old)
         → MakesParts first side root (copy_parts side b to) (suc plane) result
         (N.seen store.new) }

@@ -3,7 +3,7 @@ ghost use Rattle.std.specs.List.{slice_get};
 ghost use Rattle.vw_cell.specs.declared.cells.Cell.{Cell};
 ghost use Rattle.vox_read.specs.Contents.{Content};
 ghost use Rattle.node_words.specs.declared.shapes.names.Name.{Name};
-ghost use Rattle.node_words.specs.Held.{Seen};
+ghost use Rattle.node_words.specs.Held.{StoreState};
 ghost use Rattle.history_model.specs.Worlds.{World};
 ghost use Rattle.edit_walk.specs.cells.Worlds.{ShowsWorld};
 ghost use Rattle.history_model.specs.declared.acts.TintAct.{TintAct};
@@ -25,7 +25,7 @@ pub fn stencils_put_their_models_tints()
 /// What an act makes by its parts of a root that keeps some tints is a root that keeps the tints
 /// that the act makes of them.
 pub fn rebuilt_roots_keep_tints()
-    ensures { (old new : Seen) (side : ℕ) (root name : Option Name) (models : List Content)
+    ensures { (old new : StoreState) (side : ℕ) (root name : Option Name) (models : List Content)
         (act : TintAct) (stencil : Option Inked) (tints : Tints) (before : World)
         → TintFits (2 ^ (side - 2)) models act → HasInk models act stencil
         → PartsMade old side root (parts_in (2 ^ (side - 2)) act stencil) (part_number act) name

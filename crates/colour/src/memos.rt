@@ -1,21 +1,21 @@
 ghost use Rattle.std.specs.Prelude.{◌≡◌, ◌<◌, ◌⊎◌, ℕ};
-ghost use Rattle.edit_walk.specs.declared.memos.Kept.{Kept};
-ghost use Rattle.edit_walk.specs.Memos.{IsKeptIn};
+ghost use Rattle.edit_walk.specs.declared.memos.MemoEntry.{MemoEntry};
+ghost use Rattle.edit_walk.specs.Memos.{IsInMemo};
 
-use edit_walk::{Kept, Memo, Repeats};
+use edit_walk::{Memo, MemoEntry, Repeats};
 
 /// Remembers blocks above the leaves, one at each of 256 places; a new one takes the place of an
 /// old. It is laid out in less time than a small model takes, and a leaf is made in about the time
 /// in which it would be found. It takes no memory but the stack's.
 #[derive(Drop)]
 pub(crate) struct Recent<T> {
-    places: [Option<Kept<T>>; 256],
+    places: [Option<MemoEntry<T>>; 256],
 }
 
 impl<T: Repeats> Recent<T> {
     /// Nothing yet.
     pub(crate) fn new() -> Recent<T>
-        ensures { (level : ℕ) (e : Kept T) → ¬ IsKeptIn result.places level e }
+        ensures { (level : ℕ) (e : MemoEntry T) → ¬ IsInMemo result.places level e }
     {
         Recent {
             places: [None; 256],
@@ -24,11 +24,11 @@ impl<T: Repeats> Recent<T> {
 }
 
 impl<T: Repeats> Memo<T> for Recent<T> {
-    ghost use Rattle.edit_walk.specs.Memos.{IsKeptIn};
+    ghost use Rattle.edit_walk.specs.Memos.{IsInMemo};
 
-    ghost has = { λ m. IsKeptIn m.places };
+    ghost has = { λ m. IsInMemo m.places };
 
-    fn find(&self, level: u8, task: &T) -> Option<Kept<T>> {
+    fn find(&self, level: u8, task: &T) -> Option<MemoEntry<T>> {
         if level == 0 {
             return None;
         }
@@ -40,9 +40,9 @@ impl<T: Repeats> Memo<T> for Recent<T> {
         }
     }
 
-    fn keep(&mut self, kept: Kept<T>)
-        ensures { (level : ℕ) (e : Kept T) → IsKeptIn self.new.places level e
-            → ((level ≡ kept.level) × (e ≡ kept)) ⊎ IsKeptIn self.old.places level e }
+    fn keep(&mut self, kept: MemoEntry<T>)
+        ensures { (level : ℕ) (e : MemoEntry T) → IsInMemo self.new.places level e
+            → ((level ≡ kept.level) × (e ≡ kept)) ⊎ IsInMemo self.old.places level e }
     {
         if kept.level == 0 {
             return;

@@ -6,7 +6,7 @@ ghost use Rattle.node_words.specs.shapes.Weights.{number_of_trees};
 ghost use Rattle.node_words.specs.descent.Roots.{HoldsRoot};
 ghost use Rattle.node_words.specs.contents.CellShapes.{Cells, SameIn, no_cells, all_cells};
 ghost use Rattle.edit_walk.specs.cells.Tasks.{IsWhole};
-ghost use Rattle.edit_stamp.specs.declared.stencils.Shown.{Shown};
+ghost use Rattle.edit_stamp.specs.declared.stencils.StencilCover.{StencilCover};
 ghost use Rattle.history_model.specs.Worlds.{box_at};
 ghost use Rattle.edit_walk.specs.Edits.{MayEdit, Edits};
 ghost use Rattle.colour.specs.Inks.{ink_at};
@@ -17,7 +17,7 @@ use crate::memos::Recent;
 use crate::planes::quarter;
 use crate::stencils::TintStencil;
 use crate::walks::{Planes, rebuild_planes};
-use edit_stamp::Shown;
+use edit_stamp::StencilCover;
 use edit_walk::{Latest, Repeats, Task, Whole, old_whole};
 use node_words::{
     Blocks, Full, Name, NodeStore, Share, Steps, leaf_bits, octant_name, same_cells, same_names,
@@ -50,6 +50,10 @@ impl<'s> Task for InkTask<'s> {
 
     ghost mixed_in = { λ level t k. blocks_in (level - 1) };
 
+    fn old(&self) -> Option<Name> {
+        self.old
+    }
+
     #[inline(always)]
     fn octant<B: Blocks>(&self, store: &mut B, level: u8, octant: u8) -> InkTask<'s> {
         let old = octant_name(store, level, self.old, octant);
@@ -70,9 +74,9 @@ impl<'s> Task for InkTask<'s> {
             return old_whole(self.old);
         }
         match self.told(level, self.plane) {
-            Shown::Unset => self.cleared(level),
-            Shown::Set => Whole::All,
-            Shown::Either => Whole::Mixed,
+            StencilCover::Unset => self.cleared(level),
+            StencilCover::Set => Whole::All,
+            StencilCover::Either => Whole::Mixed,
         }
     }
 
@@ -111,19 +115,19 @@ impl<'s> InkTask<'s> {
 
     // What ink tells in a plane of the block.
     #[inline(always)]
-    fn told(&self, level: u8, plane: u8) -> Shown
+    fn told(&self, level: u8, plane: u8) -> StencilCover
         requires level { level ≤ 10 }
         requires plane { plane < 9 }
-        ensures unset { result ≡ Shown.Unset → SameIn level
+        ensures unset { result ≡ StencilCover.Unset → SameIn level
             (ink_cells self.now.stencil.now self.now.place.now plane self.now.at) no_cells }
-        ensures set { result ≡ Shown.Set → SameIn level
+        ensures set { result ≡ StencilCover.Set → SameIn level
             (ink_cells self.now.stencil.now self.now.place.now plane self.now.at) all_cells }
     {
         let drawn = self.stencil.plane(plane);
-        match drawn.shown(*self.place, self.at, level) {
-            Shown::Unset => Shown::Unset,
-            Shown::Set if self.holds(level) => Shown::Set,
-            _ => Shown::Either,
+        match drawn.coverage(*self.place, self.at, level) {
+            StencilCover::Unset => StencilCover::Unset,
+            StencilCover::Set if self.holds(level) => StencilCover::Set,
+            _ => StencilCover::Either,
         }
     }
 
@@ -153,9 +157,9 @@ impl<'s> InkTask<'s> {
             return Whole::Nothing;
         }
         match self.told(level, 0) {
-            Shown::Unset => old_whole(self.old),
-            Shown::Set => Whole::Nothing,
-            Shown::Either => Whole::Mixed,
+            StencilCover::Unset => old_whole(self.old),
+            StencilCover::Set => Whole::Nothing,
+            StencilCover::Either => Whole::Mixed,
         }
     }
 }
@@ -174,7 +178,7 @@ impl<'s> Repeats for InkTask<'s> {
         if !same_blocks(self, other) {
             return false;
         }
-        if !same_told(self, other) {
+        if !same_coverage(self, other) {
             return false;
         }
         // Where nothing was, what the ink tells is all that is set.
@@ -208,7 +212,7 @@ fn same_blocks<'s>(a: &InkTask<'s>, b: &InkTask<'s>) -> bool
 }
 
 // Whether the ink of both tells the same in the block. It may miss that.
-fn same_told<'s>(a: &InkTask<'s>, b: &InkTask<'s>) -> bool
+fn same_coverage<'s>(a: &InkTask<'s>, b: &InkTask<'s>) -> bool
     ensures { IsTrue result → SameIn a.now.level
         (ink_cells a.now.stencil.now a.now.place.now a.now.plane a.now.at)
         (ink_cells b.now.stencil.now a.now.place.now b.now.plane a.now.at) }
@@ -222,7 +226,7 @@ fn same_told<'s>(a: &InkTask<'s>, b: &InkTask<'s>) -> bool
     if b.plane > 8 {
         return false;
     }
-    tell_alike(a, a.plane, b, b.plane)
+    cover_alike(a, a.plane, b, b.plane)
 }
 
 // Whether both have ink in the same cells of the block. It may miss that.
@@ -234,11 +238,11 @@ fn same_ink<'s>(a: &InkTask<'s>, b: &InkTask<'s>) -> bool
     if a.level > 10 {
         return false;
     }
-    tell_alike(a, 0, b, 0)
+    cover_alike(a, 0, b, 0)
 }
 
 // Whether the ink of both tells the same in these planes, in the first one's block.
-fn tell_alike<'s>(a: &InkTask<'s>, plane: u8, b: &InkTask<'s>, other: u8) -> bool
+fn cover_alike<'s>(a: &InkTask<'s>, plane: u8, b: &InkTask<'s>, other: u8) -> bool
     requires level { a.now.level ≤ 10 }
     requires planes { (plane < 9) × (other < 9) }
     ensures { IsTrue result → SameIn a.now.level

@@ -51,6 +51,16 @@ impl<P: Planes<T>, T: Task> Task for TintTask<P, T> {
 
     ghost mixed_in = { λ level t k. blocks_in (level - 1) };
 
+    fn old(&self) -> Option<Name> {
+        match self {
+            TintTask::Root(old, _) => *old,
+            TintTask::Cells(old, _) => *old,
+            TintTask::Bits(old, _) => *old,
+            TintTask::Kept(old) => *old,
+            TintTask::Plane(task) => task.old(),
+        }
+    }
+
     #[inline(always)]
     fn octant<B: Blocks>(&self, store: &mut B, level: u8, octant: u8) -> TintTask<P, T> {
         match self {

@@ -25,8 +25,8 @@ use Rattle.script.specs.declared.commands.ScriptLine.{ScriptLine}
 use Rattle.transcript.specs.declared.answers.Answer.{Answer}
 use Rattle.transcript.specs.declared.answers.Answer.TheVariants as answers
 use Rattle.transcript.specs.declared.answers.LineAnswer.{LineAnswer}
-use Rattle.conformance.specs.Telling.{colour, count}
-use Rattle.conformance.specs.Answers.{IsStanding, IsReadable, done, tells, different, LineFits}
+use Rattle.conformance.specs.QuestionAnswers.{colour, count}
+use Rattle.conformance.specs.Answers.{IsUnforgotten, IsReadable, done, tells, different, LineFits}
 
 abbrev bar : Boxed
 bar = box_at (cell_at 0 0 0) (cell_at 2 1 1)
@@ -85,7 +85,7 @@ two_cells : number_in whole (world_has [] history.records 2) ≡ 2
 unfolding sum_below
 two_cells = refl
 
-all_stand : (n at v : ℕ) → v ≤ n → IsReadable (IsStanding [] 0 at n) n v
+all_stand : (n at v : ℕ) → v ≤ n → IsReadable (IsUnforgotten [] 0 at n) n v
 all_stand n at v there =
     record { there = there; stands = record { later = All-nil _; own = All-nil _ } }
 

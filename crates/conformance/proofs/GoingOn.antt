@@ -13,7 +13,7 @@ use Rattle.history_model.specs.Worlds.{World}
 use Rattle.history_model.specs.Positions.{position_after, first_of}
 use Rattle.history_model.specs.FoldLaws.{state_stays}
 use Rattle.history_model.specs.Tints.{Tints, SameTints, untinted, tints_by}
-use Rattle.history_model.specs.Logs.{Log, kept_side, world_side}
+use Rattle.history_model.specs.Logs.{Log, side_of_world, world_side}
 use Rattle.history_model.specs.Moments.{world_has, world_tint}
 use Rattle.history_model.specs.Laws.{version_stays}
 use Rattle.node_words.specs.Plans.{Layout}
@@ -21,8 +21,8 @@ use Rattle.script.specs.declared.commands.Command.{Command}
 use Rattle.script.specs.declared.commands.Command.TheVariants.{Edit, Forget, Ask, Save, Same, Head}
 use Rattle.transcript.specs.declared.answers.Answer.{Answer}
 use Rattle.vw_cell.specs.Counts.{number_in}
-use Rattle.conformance.specs.Telling.{Tells}
-use Rattle.conformance.specs.Answers.{IsForgotten, IsReadable, IsRecordOf, mark_of, target_at, HasWay, asked_version, Names, LooksUp, Answers, done, forgot, tells, saves, same, different, head, no_version, forgotten, is_head, nothing_to_undo, nothing_to_redo, log_full, stale, full, GoesOn}
+use Rattle.conformance.specs.QuestionAnswers.{AnswersTo}
+use Rattle.conformance.specs.Answers.{IsForgotten, IsReadable, IsRecordOf, mark_of, target_at, HasReadableTarget, asked_version, Names, LooksUp, Answers, done, forgot, tells, saves, same, different, head, no_version, forgotten, is_head, nothing_to_undo, nothing_to_redo, log_full, stale, full, ExtendsLog}
 
 -- what stands at a place stays there
 get_stays : {X : Type 0} (xs ys : List X) (i : ℕ) (x : X) → slice_get xs i ≡ Some x
@@ -31,11 +31,11 @@ get_stays [] ys i x here = absurd (let no : ⊥ = cc in no)
 get_stays (y ∷ xs) ys zero x here = here
 get_stays (y ∷ xs) ys (suc i) x here = get_stays xs ys i x here
 
-module _ (old new : Log) (g : GoesOn old new) (n : ℕ) (within : n ≤ length old.records) where
+module _ (old new : Log) (g : ExtendsLog old new) (n : ℕ) (within : n ≤ length old.records) where
   -- the side of the world stays, and so do the cells of each version, their tints, and the position
   pub side_stays : world_side new ≡ world_side old
-  side_stays = ap (λ (k : ℕ). kept_side new.coloured (2 ^ k)) g.side
-      ∙ ap (λ (c : Bool). kept_side c (2 ^ old.side)) g.coloured
+  side_stays = ap (λ (k : ℕ). side_of_world new.coloured (2 ^ k)) g.side
+      ∙ ap (λ (c : Bool). side_of_world c (2 ^ old.side)) g.coloured
 
   pub tints_stay : (models : List Content) (v : ℕ) → v ≤ n
       → world_tint models new.records v ≡ world_tint models old.records v
@@ -83,7 +83,7 @@ module _ (old new : Log) (g : GoesOn old new) (n : ℕ) (within : n ≤ length o
     readable_stays : (v : ℕ) → IsReadable R n v → IsReadable S n v
     readable_stays v r = record { there = r.there; stands = stand v r.there r.stands }
 
-    way_stays : (act : Act) → HasWay R old.records n act → HasWay S new.records n act
+    way_stays : (act : Act) → HasReadableTarget R old.records n act → HasReadableTarget S new.records n act
     way_stays act way other = let (to, is, readable) = way other in
         (to, target_stays act ∙ is, readable_stays to readable)
 
@@ -149,12 +149,12 @@ module _ (old new : Log) (g : GoesOn old new) (n : ℕ) (within : n ≤ length o
         (mark_stays (mark_of v n session line) listed)
     answers_stay p models session line command answer (tells version question a readable tell) =
         tells version question a (readable_stays (asked_version version n) readable)
-        (subst (λ (side : ℕ). Tells side (world_has models new.records (asked_version version n))
+        (subst (λ (side : ℕ). AnswersTo side (world_has models new.records (asked_version version n))
         (world_tint models new.records (asked_version version n)) question a) (sym side_stays)
-        (subst (λ (w : World). Tells (world_side old) w
+        (subst (λ (w : World). AnswersTo (world_side old) w
         (world_tint models new.records (asked_version version n)) question a)
         (sym (world_stays models (asked_version version n) readable.there))
-        (subst (λ (t : Tints). Tells (world_side old)
+        (subst (λ (t : Tints). AnswersTo (world_side old)
         (world_has models old.records (asked_version version n)) t question a)
         (sym (tints_stay models (asked_version version n) readable.there)) tell)))
     answers_stay p models session line command answer (saves version name part cells readable e) =

@@ -13,24 +13,24 @@ use Rattle.history_model.specs.declared.histories.Record.{Record}
 use Rattle.history_model.specs.declared.histories.Mark.{Mark}
 use Rattle.history_model.specs.Worlds.{is_edit}
 use Rattle.history_model.specs.Positions.{position_after, first_of}
-use Rattle.history_model.specs.Logs.{Log, IsLegal, suits_tints, kept_side, world_side}
+use Rattle.history_model.specs.Logs.{Log, IsLegal, suits_tints, side_of_world, world_side}
 use Rattle.history_model.specs.Tints.{Tints, SameTints}
 use Rattle.node_words.specs.Plans.{Layout}
-use Rattle.conformance.specs.Versions.{IsKept, MarkComes}
+use Rattle.conformance.specs.Versions.{HoldsVersion, InsertsMark}
 use Rattle.script.specs.declared.commands.Command.{Command}
 use Rattle.script.specs.declared.commands.Command.TheVariants.{Edit, Forget, Ask, Save, Same, Head}
 use Rattle.script.specs.declared.commands.ScriptLine.{ScriptLine}
 use Rattle.transcript.specs.declared.answers.Answer.{Answer}
 use Rattle.transcript.specs.declared.answers.Answer.TheVariants as answers
 use Rattle.transcript.specs.declared.answers.LineAnswer.{LineAnswer}
-use Rattle.conformance.specs.Answers.{IsStanding, IsForgotten, IsReadable, mark_of, target_at, HasWay, Answers, done, forgot, GoesOn}
+use Rattle.conformance.specs.Answers.{IsUnforgotten, IsForgotten, IsReadable, mark_of, target_at, HasReadableTarget, Answers, done, forgot, ExtendsLog}
 use Rattle.conformance.specs.Shown.{Accepted, numbered, is_done, accepted_by, forgotten_by}
 use Rattle.conformance.specs.Running.{line_numbers, IsBy, IsSoFar, IsOldOrNew, LineStep, GrowsByRecord, ForgetsBy}
 use Rattle.conformance.specs.Kinds.{is_resting, answer_at, IsAfter}
 use Rattle.conformance.proofs.Lists.{same_nothing, same_of}
 
 -- a history goes on from itself
-pub goes_nowhere : (log : Log) → GoesOn log log
+pub goes_nowhere : (log : Log) → ExtendsLog log log
 goes_nowhere log =
     record {
       side = refl;
@@ -97,7 +97,7 @@ resting_forgets session line n (answers.Stale b) rests = refl
 
 pub resting_line : (p : Layout) (models : List Content) (session : ℕ) (l : ScriptLine) (log : Log)
     (answer : Answer) → IsLegal (2 ^ p.side) models log → is_resting answer ≡ true
-    → Answers p models log (IsStanding log.marks session l.line (length log.records)) session l.line
+    → Answers p models log (IsUnforgotten log.marks session l.line (length log.records)) session l.line
     (length log.records) l.command answer
     → LineStep p models session l log log (answer_at l (length log.records) answer)
 resting_line p models session l log answer legal rests fits = record {
@@ -218,7 +218,7 @@ All-old P (w ∷ xs) ys x all here =
     (All-old P xs ys x (λ k d lt. all (suc k) d (omega arith)) here)
 
 marks_weigh : (f : Mark → ℕ) (old : List Mark) (mark : Mark) (new : List Mark)
-    → MarkComes old mark new → sum_by f new ≡ sum_by f old + f mark
+    → InsertsMark old mark new → sum_by f new ≡ sum_by f old + f mark
 marks_weigh f old mark new m =
     let a : sum_by f old ≡ sum_by f (m.before ++ m.after) = ap (sum_by f) m.was in
     let b : sum_by f new ≡ sum_by f (m.before ++ mark ∷ m.after) = ap (sum_by f) m.is in
@@ -227,7 +227,7 @@ marks_weigh f old mark new m =
     let e = sum_by-cons f mark m.after in
     omega arith
 
-old_listed : (old : List Mark) (mark : Mark) (new : List Mark) → MarkComes old mark new
+old_listed : (old : List Mark) (mark : Mark) (new : List Mark) → InsertsMark old mark new
     → All (Contains new) old
 old_listed old mark new m =
     subst (λ (xs : List Mark). All (Contains new) xs) (sym m.was)
@@ -241,13 +241,13 @@ old_listed old mark new m =
     wide (w ∷ xs) ys x (suc k, lt, e) =
         (let c = wide xs ys x (k, omega arith, e) in let at = c.1 in (suc c.0, omega arith, c.2))
 
-new_listed : (old : List Mark) (mark : Mark) (new : List Mark) → MarkComes old mark new
+new_listed : (old : List Mark) (mark : Mark) (new : List Mark) → InsertsMark old mark new
     → Contains new mark
 new_listed old mark new m =
     subst (λ (xs : List Mark). Contains xs mark) (sym m.is)
     (Contains-append_right m.before (mark ∷ m.after) mark (0, omega arith, refl))
 
-old_or_new : (old : List Mark) (n : ℕ) (mark : Mark) (new : List Mark) → MarkComes old mark new
+old_or_new : (old : List Mark) (n : ℕ) (mark : Mark) (new : List Mark) → InsertsMark old mark new
     → n ≡ mark.at → All (IsOldOrNew old n mark.session mark.line) new
 old_or_new old n mark new m at =
     subst (λ (xs : List Mark). All (IsOldOrNew old n mark.session mark.line) xs) (sym m.is)
@@ -314,8 +314,8 @@ forgot_line p models mark old new e =
 -- ---- what stands behind the answers that change nothing
 
 -- a version that no mark forgets is readable
-pub kept_readable : (log : Log) (session line v : ℕ) → IsKept log v
-    → IsReadable (IsStanding log.marks session line (length log.records)) (length log.records) v
+pub kept_readable : (log : Log) (session line v : ℕ) → HoldsVersion log v
+    → IsReadable (IsUnforgotten log.marks session line (length log.records)) (length log.records) v
 kept_readable log session line v kept = record {
   there = kept.there;
   stands = record {
@@ -369,8 +369,8 @@ pub full_way : (log : Log) (session line : ℕ) (act : Act)
     →
     ((is_edit act ≡ true)
     ⊎ ((to : ℕ) × (target_at log.records (length log.records) act ≡ Some to)
-    × IsKept log to))
-    → HasWay (IsStanding log.marks session line (length log.records)) log.records
+    × HoldsVersion log to))
+    → HasReadableTarget (IsUnforgotten log.marks session line (length log.records)) log.records
     (length log.records) act
 full_way log session line act (inl edit) other = absurd (other edit)
 full_way log session line act (inr way) other =
@@ -378,7 +378,7 @@ full_way log session line act (inr way) other =
 
 -- what is told of a world of a plan's side is told of one of the history's
 pub same_side : (p : Layout) (models : List Content) (log : Log) (t u : Tints)
-    → IsLegal (2 ^ p.side) models log → SameTints (kept_side log.coloured (2 ^ p.side)) t u
+    → IsLegal (2 ^ p.side) models log → SameTints (side_of_world log.coloured (2 ^ p.side)) t u
     → SameTints (world_side log) t u
 same_side p models log t u legal same =
-    subst (λ (side : ℕ). SameTints (kept_side log.coloured side) t u) (sym legal.same_side) same
+    subst (λ (side : ℕ). SameTints (side_of_world log.coloured side) t u) (sym legal.same_side) same

@@ -22,8 +22,8 @@ use Rattle.script.specs.declared.commands.ScriptLine.{ScriptLine}
 use Rattle.transcript.specs.declared.answers.Answer.{Answer}
 use Rattle.transcript.specs.declared.answers.Answer.TheVariants as answers
 use Rattle.transcript.specs.declared.answers.LineAnswer.{LineAnswer}
-use Rattle.conformance.specs.Telling.{count}
-use Rattle.conformance.specs.Answers.{IsStanding, IsForgotten, IsReadable, done, forgot, tells, saves, different, head, no_version, forgotten, is_head, nothing_to_undo, nothing_to_redo, stale, full, LineFits}
+use Rattle.conformance.specs.QuestionAnswers.{count}
+use Rattle.conformance.specs.Answers.{IsUnforgotten, IsForgotten, IsReadable, done, forgot, tells, saves, different, head, no_version, forgotten, is_head, nothing_to_undo, nothing_to_redo, stale, full, LineFits}
 
 abbrev one : ℕ → Boxed
 one x = box_at (cell_at x 0 0) (cell_at 1 1 1)
@@ -41,7 +41,7 @@ abbrev log_of : List Record → List Mark → Log
 log_of records marks = record { side = 3; coloured = false; records = records; marks = marks }
 
 -- where nothing is forgotten, all versions stand
-all_stand : (n at v : ℕ) → v ≤ n → IsReadable (IsStanding [] 0 at n) n v
+all_stand : (n at v : ℕ) → v ≤ n → IsReadable (IsUnforgotten [] 0 at n) n v
 all_stand n at v there =
     record { there = there; stands = record { later = All-nil _; own = All-nil _ } }
 
@@ -144,7 +144,7 @@ one_forgotten at later =
       earlier = λ _. later;
     }
 
-other_stands : (v : ℕ) → v ≤ 2 → (1 ≡ v → ⊥) → IsReadable (IsStanding forgettings.marks 0 8 2) 2 v
+other_stands : (v : ℕ) → v ≤ 2 → (1 ≡ v → ⊥) → IsReadable (IsUnforgotten forgettings.marks 0 8 2) 2 v
 other_stands v there other = record {
   there = there;
   stands = record {

@@ -12,7 +12,7 @@ use Rattle.history_model.specs.LegalLaws.{legal_empty}
 use Rattle.node_words.specs.Plans.{Layout}
 use Rattle.script.specs.declared.commands.ScriptLine.{ScriptLine}
 use Rattle.transcript.specs.declared.answers.LineAnswer.{LineAnswer}
-use Rattle.conformance.specs.Answers.{IsStanding, LineFits, GoesOn}
+use Rattle.conformance.specs.Answers.{IsUnforgotten, LineFits, ExtendsLog}
 use Rattle.conformance.specs.Shown.{Accepted, numbered, accepted_by, forgotten_by, accepted_in, forgotten_in, accepted_of, forgotten_of}
 use Rattle.conformance.specs.Agreeing.{InOrder, SessionAgrees, SessionsAgree, Agrees}
 use Rattle.conformance.specs.Running.{line_numbers, IsBy, IsSoFar, LineStep}
@@ -147,8 +147,8 @@ module _ (p : Layout) (models : List Content) (session : ℕ) (l : ScriptLine) (
   -- a version that stands for another session's line, or an earlier one of this session, goes on to
   -- stand
   standing_stays : (other line n v : ℕ) → n ≤ length old.records
-      → (other ≢ session) ⊎ (line ≤ l.line) → IsStanding old.marks other line n v
-      → IsStanding new.marks other line n v
+      → (other ≢ session) ⊎ (line ≤ l.line) → IsUnforgotten old.marks other line n v
+      → IsUnforgotten new.marks other line n v
   standing_stays other line n v within apart s = record {
     later = λ i d lt same. elim (step.new_marks i d lt) [
       | inl was ↦ All-contains (λ (m : Mark). m.version ≡ v → n ≤ m.at) old.marks
@@ -170,15 +170,15 @@ module _ (p : Layout) (models : List Content) (session : ℕ) (l : ScriptLine) (
       → LineFits p models old other k b → LineFits p models new other k b
   line_stays other k b apart fits =
       let within = fits.within in
-      let g : GoesOn old new = step.goes_on in
+      let g : ExtendsLog old new = step.goes_on in
       let more : length new.records ≡ length (old.records ++ g.more) = ap length g.records in
       let both = length_both old g.more in
       record {
         same_line = fits.same_line;
         within = omega arith;
         answers =
-            answers_stay old new g b.at fits.within (IsStanding old.marks other k.line b.at)
-            (IsStanding new.marks other k.line b.at)
+            answers_stay old new g b.at fits.within (IsUnforgotten old.marks other k.line b.at)
+            (IsUnforgotten new.marks other k.line b.at)
             (λ v le s. standing_stays other k.line b.at v fits.within apart s) p models other k.line k.command b.answer fits.answers;
       }
     where

@@ -22,8 +22,8 @@ use Rattle.script.specs.declared.commands.ScriptLine.{ScriptLine}
 use Rattle.transcript.specs.declared.answers.Answer.{Answer}
 use Rattle.transcript.specs.declared.answers.Answer.TheVariants as answers
 use Rattle.transcript.specs.declared.answers.LineAnswer.{LineAnswer}
-use Rattle.conformance.specs.Telling.{is, count}
-use Rattle.conformance.specs.Answers.{IsStanding, IsForgotten, IsReadable, asked_version, Answers, done, forgot, tells, forgotten, LineFits}
+use Rattle.conformance.specs.QuestionAnswers.{is, count}
+use Rattle.conformance.specs.Answers.{IsUnforgotten, IsForgotten, IsReadable, asked_version, Answers, done, forgot, tells, forgotten, LineFits}
 use Rattle.conformance.specs.Shown.{IsShown}
 use Rattle.conformance.specs.Refusing.{FullOnlyWherePossible}
 
@@ -90,7 +90,7 @@ is_forgotten session at earlier =
       earlier = earlier;
     }
 
-newest_stands : (session at : ℕ) → IsReadable (IsStanding history.marks session at 1) 1 1
+newest_stands : (session at : ℕ) → IsReadable (IsUnforgotten history.marks session at 1) 1 1
 newest_stands session at = record {
   there = omega arith;
   stands = record {
@@ -176,12 +176,12 @@ module _ (p : Layout) where
       (answers.Is false) refl refl fits.answers
     where
       no : (c : Command) (a : Answer) → c ≡ Ask (Some 0) (questions.Get corner)
-          → a ≡ (answers.Is false) → Answers p [] history (IsStanding history.marks 0 3 1) 0 3 1 c a
+          → a ≡ (answers.Is false) → Answers p [] history (IsUnforgotten history.marks 0 3 1) 0 3 1 c a
           → ⊥
       no c a e f (tells version question answer readable tell) =
           let at : version ≡ Some 0 = ap asked e in
-          let of : IsReadable (IsStanding history.marks 0 3 1) 1 (asked_version (Some 0) 1) =
-          subst (λ (v : Option ℕ). IsReadable (IsStanding history.marks 0 3 1) 1
+          let of : IsReadable (IsUnforgotten history.marks 0 3 1) 1 (asked_version (Some 0) 1) =
+          subst (λ (v : Option ℕ). IsReadable (IsUnforgotten history.marks 0 3 1) 1
           (asked_version v 1)) at readable in
           let late =
           All-head (λ (m : Mark). m.version ≡ 0 → m.session ≡ 0

@@ -10,7 +10,7 @@ use Rattle.history_model.specs.Logs.{Log}
 use Rattle.node_words.specs.Plans.{Layout}
 use Rattle.script.specs.declared.commands.ScriptLine.{ScriptLine}
 use Rattle.transcript.specs.declared.answers.LineAnswer.{LineAnswer}
-use Rattle.conformance.specs.Answers.{IsStanding, LineFits, GoesOn}
+use Rattle.conformance.specs.Answers.{IsUnforgotten, LineFits, ExtendsLog}
 use Rattle.conformance.specs.Shown.{Accepted, accepted_by, accepted_in}
 use Rattle.conformance.specs.Agreeing.{InOrder, SessionAgrees}
 use Rattle.conformance.specs.Passes.{Found, IsLooked, LineSeen, PassSoFar, PassStep, Closes}
@@ -19,7 +19,7 @@ use Rattle.conformance.proofs.GoingOn.{answers_stay}
 use Rattle.conformance.proofs.Lists.{zip_push, zip_map, pairs_push}
 use Rattle.conformance.proofs.Running.{accepted_push}
 
-pub longer : (old new : Log) → GoesOn old new → length old.records ≤ length new.records
+pub longer : (old new : Log) → ExtendsLog old new → length old.records ≤ length new.records
 longer old new g =
     (let more : length new.records
     ≡ length (old.records ++ g.more) = ap length g.records in let both = length-append old.records g.more in omega arith)
@@ -109,7 +109,7 @@ pass_line p models session script transcript l old new found more records now ow
 pub looked_stands : (found : List Found) (own marks : List Mark) (session line n v : ℕ)
     → All (λ f. All (λ m. m.version ≡ f.version → f.at ≤ m.at) marks) found
     → All (λ m. m.session ≡ session → Contains own m) marks → All (λ m. m.version < m.at) marks
-    → IsLooked found own line n v → IsStanding marks session line n v
+    → IsLooked found own line n v → IsUnforgotten marks session line n v
 looked_stands found own marks session line n v excluded listed dated looked = record {
   later = elim looked.listed [
     | inl there ↦ All-contains
@@ -142,6 +142,6 @@ pass_agrees p models session script transcript seen whole found records own s c 
           within = omega arith;
           answers =
               answers_stay seen whole c.goes_on b.at fits.within (IsLooked found own k.line b.at)
-              (IsStanding whole.marks session k.line b.at)
+              (IsUnforgotten whole.marks session k.line b.at)
               (λ v le looked. looked_stands found own whole.marks session k.line b.at v c.excluded c.listed c.dated looked) p models session k.line k.command b.answer fits.answers;
         }

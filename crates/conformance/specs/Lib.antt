@@ -1,4 +1,4 @@
-pub mod Telling
+pub mod QuestionAnswers
 pub mod Answers
 pub mod Shown
 pub mod Agreeing

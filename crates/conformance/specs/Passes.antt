@@ -10,7 +10,7 @@ pub use Rattle.retain.specs.Listing.{Found}
 use Rattle.script.specs.declared.commands.ScriptLine.{ScriptLine}
 use Rattle.transcript.specs.declared.answers.Answer.TheVariants as answers
 use Rattle.transcript.specs.declared.answers.LineAnswer.{LineAnswer}
-use Rattle.conformance.specs.Answers.{Answers, GoesOn}
+use Rattle.conformance.specs.Answers.{Answers, ExtendsLog}
 use Rattle.conformance.specs.Shown.{Accepted, SameItems, accepted_by, accepted_in}
 use Rattle.conformance.specs.Agreeing.{InOrder}
 
@@ -42,7 +42,7 @@ pub record PassSoFar (p : Layout) (models : List Content) (session : ℕ) (scrip
 pub record PassStep (p : Layout) (models : List Content) (session : ℕ) (l : ScriptLine)
     (old new : Log) (found more : List Found) (records now : List Accepted) (own mine : List Mark)
     (a : LineAnswer) : Type 0 where
-  pub goes_on : GoesOn old new
+  pub goes_on : ExtendsLog old new
   pub found_stay : All (Contains more) found
   pub own_or_new : All (λ m. (Contains own m) ⊎ (m.line ≡ l.line)) mine
   pub no_earlier : length old.records ≤ a.at
@@ -55,7 +55,7 @@ pub record PassStep (p : Layout) (models : List Content) (session : ℕ) (l : Sc
 -- it, and has no mark of the session but its own
 pub record Closes (seen : Log) (found : List Found) (session : ℕ) (own : List Mark)
     (whole : Log) : Type 0 where
-  pub goes_on : GoesOn seen whole
+  pub goes_on : ExtendsLog seen whole
   pub excluded : All (λ f. All (λ m. m.version ≡ f.version → f.at ≤ m.at) whole.marks) found
   pub listed : All (λ m. m.session ≡ session → Contains own m) whole.marks
   pub dated : All (λ m. m.version < m.at) whole.marks

@@ -4,13 +4,13 @@ use Rattle.std.specs.List.{AllZip, Contains}
 use Rattle.history_model.specs.Contents.{Content}
 use Rattle.history_model.specs.declared.histories.Record.{Record}
 use Rattle.history_model.specs.declared.histories.Mark.{Mark}
-use Rattle.conformance.specs.Versions.{MarkComes}
+use Rattle.conformance.specs.Versions.{InsertsMark}
 use Rattle.history_model.specs.Logs.{Log, IsLegal, SuitsTints, suits_tints}
 use Rattle.node_words.specs.Plans.{Layout}
 use Rattle.script.specs.declared.commands.ScriptLine.{ScriptLine}
 use Rattle.transcript.specs.declared.answers.Answer.TheVariants as answers
 use Rattle.transcript.specs.declared.answers.LineAnswer.{LineAnswer}
-use Rattle.conformance.specs.Answers.{LineFits, GoesOn}
+use Rattle.conformance.specs.Answers.{LineFits, ExtendsLog}
 use Rattle.conformance.specs.Shown.{SameItems, numbered, accepted_by, forgotten_by, accepted_in, forgotten_in, accepted_of, forgotten_of}
 use Rattle.conformance.specs.Agreeing.{InOrder, SessionsAgree}
 
@@ -48,7 +48,7 @@ pub record LineStep (p : Layout) (models : List Content) (session : ℕ) (l : Sc
     (old new : Log) (a : LineAnswer) : Type 0 where
   pub legal : IsLegal (2 ^ p.side) models new
   pub suits : SuitsTints old → SuitsTints new
-  pub goes_on : GoesOn old new
+  pub goes_on : ExtendsLog old new
   pub new_marks : All (IsOldOrNew old.marks (length old.records) session l.line) new.marks
   pub no_earlier : length old.records ≤ a.at
   pub later : a.answer ≡ answers.Done → length old.records < a.at
@@ -76,4 +76,4 @@ pub record ForgetsBy (p : Layout) (models : List Content) (mark : Mark)
   pub coloured : new.coloured ≡ old.coloured
   pub records : new.records ≡ old.records
   pub now : mark.at ≡ length old.records
-  pub marks : MarkComes old.marks mark new.marks
+  pub marks : InsertsMark old.marks mark new.marks

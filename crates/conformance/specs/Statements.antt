@@ -10,7 +10,7 @@ use Rattle.history_model.specs.Worlds.{is_edit}
 use Rattle.history_model.specs.Positions.{position_after, first_of}
 use Rattle.history_model.specs.Logs.{Log, IsLegal, SuitsTints}
 use Rattle.node_words.specs.Plans.{Layout}
-use Rattle.conformance.specs.Versions.{IsKept}
+use Rattle.conformance.specs.Versions.{HoldsVersion}
 use Rattle.conformance.specs.possible.Needed.{IsPossible}
 use Rattle.script.specs.declared.commands.Command.{Command}
 use Rattle.script.specs.declared.commands.Command.TheVariants.{Edit, Forget}
@@ -18,7 +18,7 @@ use Rattle.script.specs.declared.commands.ScriptLine.{ScriptLine}
 use Rattle.transcript.specs.declared.answers.Answer.{Answer}
 use Rattle.transcript.specs.declared.answers.Answer.TheVariants as answers
 use Rattle.transcript.specs.declared.answers.LineAnswer.{LineAnswer}
-use Rattle.conformance.specs.Answers.{IsStanding, IsReadable, IsForgotten, HasWay, Answers, GoesOn, target_at}
+use Rattle.conformance.specs.Answers.{IsUnforgotten, IsReadable, IsForgotten, HasReadableTarget, Answers, ExtendsLog, target_at}
 use Rattle.conformance.specs.Shown.{Accepted, SameItems, numbered, weight_at, accepted_in, forgotten_in, accepted_of, forgotten_of}
 use Rattle.conformance.specs.Agreeing.{Agrees, SessionAgrees}
 use Rattle.conformance.specs.Kinds.{is_resting, answer_at, IsAfter}
@@ -29,13 +29,13 @@ use Rattle.conformance.specs.Refusing.{spans_of, refused_of, FullOnlyWherePossib
 -- an answer that fits a history fits every one that goes on from it, as long as the versions stand
 -- that it rests on
 abbrev pub AnswersGoOn : Type 0
-AnswersGoOn = (old new : Log) → GoesOn old new → (n : ℕ) → n ≤ length old.records
+AnswersGoOn = (old new : Log) → ExtendsLog old new → (n : ℕ) → n ≤ length old.records
     → (session line : ℕ)
-    → ((v : ℕ) → v ≤ n → IsStanding old.marks session line n v
-    → IsStanding new.marks session line n v)
+    → ((v : ℕ) → v ≤ n → IsUnforgotten old.marks session line n v
+    → IsUnforgotten new.marks session line n v)
     → (p : Layout) (models : List Content) (command : Command) (answer : Answer)
-    → Answers p models old (IsStanding old.marks session line n) session line n command answer
-    → Answers p models new (IsStanding new.marks session line n) session line n command answer
+    → Answers p models old (IsUnforgotten old.marks session line n) session line n command answer
+    → Answers p models new (IsUnforgotten new.marks session line n) session line n command answer
 
 -- ---- scripts one after another
 
@@ -85,14 +85,15 @@ abbrev pub RestingAnswersAreSteps : Type 0
 RestingAnswersAreSteps = (p : Layout) (models : List Content) (session : ℕ) (l : ScriptLine)
     (log : Log) (answer : Answer)
     → IsLegal (2 ^ p.side) models log → is_resting answer ≡ true
-    → Answers p models log (IsStanding log.marks session l.line (length log.records)) session l.line
+    → Answers p models log
+    (IsUnforgotten log.marks session l.line (length log.records)) session l.line
     (length log.records) l.command answer
     → LineStep p models session l log log (answer_at l (length log.records) answer)
 
 -- a version that no mark forgets can be read
-abbrev pub KeptVersionsAreReadable : Type 0
-KeptVersionsAreReadable = (log : Log) (session line v : ℕ) → IsKept log v
-    → IsReadable (IsStanding log.marks session line (length log.records)) (length log.records) v
+abbrev pub HeldVersionsAreReadable : Type 0
+HeldVersionsAreReadable = (log : Log) (session line v : ℕ) → HoldsVersion log v
+    → IsReadable (IsUnforgotten log.marks session line (length log.records)) (length log.records) v
 
 -- and one with a mark is forgotten for each further line
 abbrev pub MarkedVersionsAreForgotten : Type 0
@@ -112,11 +113,11 @@ RedosGoToFuture = (records : List Record)
     → target_at records (length records) Redo ≡ first_of (position_after records).future
 
 -- an edit has its way, and so has an undo or a redo whose target is kept
-abbrev pub KeptTargetsAreWays : Type 0
-KeptTargetsAreWays = (log : Log) (session line : ℕ) (act : Act)
+abbrev pub HeldTargetsAreReadable : Type 0
+HeldTargetsAreReadable = (log : Log) (session line : ℕ) (act : Act)
     → (is_edit act ≡ true)
-    ⊎ ((to : ℕ) × (target_at log.records (length log.records) act ≡ Some to) × IsKept log to)
-    → HasWay (IsStanding log.marks session line (length log.records)) log.records
+    ⊎ ((to : ℕ) × (target_at log.records (length log.records) act ≡ Some to) × HoldsVersion log to)
+    → HasReadableTarget (IsUnforgotten log.marks session line (length log.records)) log.records
     (length log.records) act
 
 -- ---- sessions beside each other

@@ -1,11 +1,11 @@
-pub mod Seen
+pub mod SessionViews
 pub mod Notes
 pub mod Fallen
 pub mod Ran
 pub mod Runs
-pub mod Kept
+pub mod LoggedSaves
 pub mod Saves
 pub mod Lines
 pub mod Calls
-pub mod Told
+pub mod CallSpecs
 pub mod Statements

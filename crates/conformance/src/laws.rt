@@ -1,4 +1,4 @@
-ghost use Rattle.conformance.specs.Statements.{AnswersGoOn, RunsBegin, RunsGoOnByLines, RunsGoOnByScripts, RunsAgree, AcceptedChangesAreSteps, ForgettingsAreSteps, RestingAnswersAreSteps, KeptVersionsAreReadable, MarkedVersionsAreForgotten, UndosGoToPast, RedosGoToFuture, KeptTargetsAreWays, PassesGoOn, PassesAgree, OwnRecordsAreAll, OwnMarksAreAll, AllRecordsAreOwn, AllMarksAreOwn, RecordsAreShownOnce, NoOthersAreShown, NoneIsShownAtZero, NeverFullWhereTooFew};
+ghost use Rattle.conformance.specs.Statements.{AnswersGoOn, RunsBegin, RunsGoOnByLines, RunsGoOnByScripts, RunsAgree, AcceptedChangesAreSteps, ForgettingsAreSteps, RestingAnswersAreSteps, HeldVersionsAreReadable, MarkedVersionsAreForgotten, UndosGoToPast, RedosGoToFuture, HeldTargetsAreReadable, PassesGoOn, PassesAgree, OwnRecordsAreAll, OwnMarksAreAll, AllRecordsAreOwn, AllMarksAreOwn, RecordsAreShownOnce, NoOthersAreShown, NoneIsShownAtZero, NeverFullWhereTooFew};
 
 /// An answer that fits a history fits every one that goes on from it.
 pub fn answers_go_on()
@@ -20,11 +20,11 @@ pub fn each_answer_is_a_step()
     ensures done { AcceptedChangesAreSteps }
     ensures forgot { ForgettingsAreSteps }
     ensures rests { RestingAnswersAreSteps }
-    ensures readable { KeptVersionsAreReadable }
+    ensures readable { HeldVersionsAreReadable }
     ensures forgotten { MarkedVersionsAreForgotten }
     ensures undo { UndosGoToPast }
     ensures redo { RedosGoToFuture }
-    ensures full_log { KeptTargetsAreWays }
+    ensures full_log { HeldTargetsAreReadable }
 {}
 
 /// Sessions beside each other: each one's lines go on to fit what it has seen; at the end they

@@ -23,6 +23,6 @@ pub use runs::{Ran, Transcript};
 pub use saves::SavedBox;
 pub use scripts::{arms_take_lines, plain_edits_want_their_parts};
 pub use sessions::{
-    ActAnswer, AskedAt, OnceAnswer, SavedAt, SessionCalls, SessionDesk, answer_line,
+    ActAnswer, AskedAt, LineResponder, OnceAnswer, SavedAt, SessionCalls, answer_line,
     calls_take_lines, run_lines, sessions_are_a_run, sessions_go_on,
 };

@@ -1,7 +1,8 @@
 //! Which contents a run's edits can have needed, cell by cell: when a bucket may be full.
 //!
 //! It is definitions and a law, and touches nothing: no store occurs here. Which contents an act
-//! needs, and how many different ones a run can have needed, is said in `specs/possible/Needed.antt`.
+//! needs, and how many different ones a run can have needed, is said in
+//! `specs/possible/Needed.antt`.
 
 ghost use Rattle.std.specs.Prelude.{◌≡◌, ℕ, List};
 ghost use Rattle.node_words.specs.shapes.Shape.{Shape, has, IsCanonical};

@@ -7,7 +7,7 @@ use Rattle.node_words.specs.declared.shapes.names.Name.{Name}
 use Rattle.node_words.specs.declared.keys.Key.{Key}
 use Rattle.node_words.specs.Keys.{bucket_of_key}
 use Rattle.node_words.specs.Plans.{Layout}
-use Rattle.core_laws.specs.places.Spots.{levels, buckets_at, versions}
+use Rattle.core_laws.specs.places.WordIds.{levels, buckets_at, versions}
 use Rattle.core_laws.specs.States.{State, IsLive}
 use Rattle.core_laws.specs.places.Names.{key_child}
 use Rattle.core_laws.specs.places.Names.{named}

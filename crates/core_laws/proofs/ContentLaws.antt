@@ -15,10 +15,10 @@ use Rattle.node_words.specs.shapes.Shape.{Shape, Clear, ShowsCells, HasCell, IsC
 use Rattle.node_words.proofs.OfShapes.ShapeLaws.{some_cell, same_shape}
 use Rattle.node_words.specs.Plans.{Layout}
 use Rattle.core_laws.specs.Worlds.{World}
-use Rattle.core_laws.specs.places.Spots.{levels}
+use Rattle.core_laws.specs.places.WordIds.{levels}
 use Rattle.core_laws.specs.Stores as history
 use Rattle.core_laws.specs.Soundness.{Sound}
-use Rattle.core_laws.specs.contents.Versions.{IsKept}
+use Rattle.core_laws.specs.contents.Versions.{HoldsVersion}
 use Rattle.core_laws.proofs.LiveNumbers.{live_numbers}
 use Rattle.core_laws.proofs.Roots.{sound_roots}
 use Rattle.core_laws.proofs.RootCells.{no_root_no_cell}
@@ -211,10 +211,10 @@ pub live_contents : (p : Layout) (models : List Content) (state : State) (level 
     → Sound p models state → IsIdle state → level < levels p
     → HasContents (world_block p.side)
     (λ v. history.stored_in (2 ^ p.side) models state.log.records v)
-    (λ v. IsKept state.log v) level (live_number p state level)
+    (λ v. HoldsVersion state.log v) level (live_number p state level)
 live_contents p models state level low s idle in_plan =
     contents p (λ v. history.stored_in (2 ^ p.side) models state.log.records v) state level
-    (λ v. IsKept state.log v)
+    (λ v. HoldsVersion state.log v)
     (live_number p state level)
     (λ v b site. there v (state.root v) refl site.rooted)
     (λ t filled. record {
@@ -231,13 +231,13 @@ live_contents p models state level low s idle in_plan =
     (λ v. history.stored_in (2 ^ p.side) models state.log.records v) state level s.entries
     (sound_roots p models state s.versions) idle in_plan)
   where
-    there : (v : ℕ) (o : Option Name) → state.root v ≡ o → o ≢ None → IsKept state.log v
+    there : (v : ℕ) (o : Option Name) → state.root v ≡ o → o ≢ None → HoldsVersion state.log v
     there v None e some = absurd (some refl)
     there v (Some n) e some = s.versions.kept v n e
 
     inside : (t : Site)
         (filled : IsFilled (world_block p.side)
         (λ v. history.stored_in (2 ^ p.side) models state.log.records v)
-        (λ v. IsKept state.log v) level t) → IsInWorld (2 ^ p.side) filled.some.at
+        (λ v. HoldsVersion state.log v) level t) → IsInWorld (2 ^ p.side) filled.some.at
     inside t filled =
         aligned_in_world p.side t.block filled.some.at low filled.aligned filled.some.inside

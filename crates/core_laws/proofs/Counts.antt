@@ -6,7 +6,7 @@ use Rattle.std.proofs.lemmas.Option.{same_Some, none-some}
 use Rattle.vw_cell.specs.Sums.{sum_below-same, sum_below-change}
 use Rattle.node_words.specs.declared.shapes.names.Name.{Name}
 use Rattle.node_words.specs.Plans.{Layout}
-use Rattle.core_laws.specs.places.Spots.{versions}
+use Rattle.core_laws.specs.places.WordIds.{versions}
 use Rattle.core_laws.specs.States.{State}
 use Rattle.core_laws.specs.places.Names.{IsName}
 use Rattle.core_laws.specs.Counting.{weight, children_weight, entry_weight, booked, parented, rooted, holdings}

@@ -5,7 +5,7 @@ use Rattle.node_words.proofs.OfShapes.TreeEqual.{Name-discrete}
 use Rattle.node_words.specs.declared.keys.Key.{Key}
 use Rattle.node_words.specs.Keys.{bucket_of_key}
 use Rattle.node_words.specs.Plans.{Layout}
-use Rattle.core_laws.specs.places.Spots.{buckets_at}
+use Rattle.core_laws.specs.places.WordIds.{buckets_at}
 use Rattle.core_laws.specs.States.{State, IsLive}
 use Rattle.core_laws.specs.places.Names.{IsName}
 use Rattle.core_laws.specs.Counting.{weight, children_weight, if_live, entry_weight, rooted, holdings}

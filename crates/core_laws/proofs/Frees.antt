@@ -13,7 +13,7 @@ use Rattle.node_words.specs.Plans.{Layout}
 use Rattle.node_words.specs.Held.{IsHeld, IsUnheldBranch, ReturnsWithin}
 use Rattle.core_laws.specs.places.Names.{IsName}
 use Rattle.core_laws.specs.States.{State, shape_in}
-use Rattle.core_laws.specs.Standing.{Stands, AllStand}
+use Rattle.core_laws.specs.LiveTrees.{IsLiveTree, AreLiveTrees}
 use Rattle.core_laws.specs.Soundness.{SoundEntries}
 use Rattle.core_laws.specs.Returning.{IsShapeStored, OneBookChanges, IsFreed, FreesParts}
 use Rattle.core_laws.proofs.LiveShapes.{not_clear_at}
@@ -161,16 +161,16 @@ frees_octant p key before middle after s k steps now last a b = record {
 
 -- what is part of a tree that stands is stored
 held_stored : (p : Layout) (state : State) (held : List Tree) (t : Tree) (r : Shape)
-    → SoundEntries p state → AllStand p state held → IsHeld held t → IsPart r (shape_of t)
+    → SoundEntries p state → AreLiveTrees p state held → IsHeld held t → IsPart r (shape_of t)
     → IsShapeStored p state.key state.book r
 held_stored p state held t r sound all h part =
-    let s : Stands p state t = all.each t h in
+    let s : IsLiveTree p state t = all.each t h in
     part_stored p state sound s.name.level s.name
     (record { live = s.live; same_level = refl }) part (ap shape_of (sym s.tree))
 
 -- what a store promises of giving back
 pub returns_within : (p : Layout) (state : State) (before : Name → ℕ) (held : List Tree)
-    (s : Shape) (steps now : ℕ) → SoundEntries p state → AllStand p state held
+    (s : Shape) (steps now : ℕ) → SoundEntries p state → AreLiveTrees p state held
     → FreesParts p state.key s 1 before state.book steps now → ReturnsWithin held s steps now
 returns_within p state before held s steps now sound all f = record {
   freed = f.freed;
@@ -187,7 +187,7 @@ returns_within p state before held s steps now sound all f = record {
 
 -- where the whole is still held nothing was freed
 pub frees_none : (p : Layout) (state : State) (before : Name → ℕ) (held : List Tree) (t : Tree)
-    (s : Shape) (first steps now : ℕ) → SoundEntries p state → AllStand p state held
+    (s : Shape) (first steps now : ℕ) → SoundEntries p state → AreLiveTrees p state held
     → IsHeld held t → shape_of t ≡ s
     → FreesParts p state.key s first before state.book steps now → now ≤ steps + first
 frees_none p state before held t s first steps now sound all h e f =

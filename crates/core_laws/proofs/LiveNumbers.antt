@@ -12,7 +12,7 @@ use Rattle.node_words.specs.declared.shapes.names.Name.{Name}
 use Rattle.node_words.specs.shapes.Shape.{Shape, Clear, IsCanonical}
 use Rattle.node_words.specs.shapes.Tree.{shape_of}
 use Rattle.node_words.specs.Plans.{Layout}
-use Rattle.core_laws.specs.places.Spots.{levels, buckets_at}
+use Rattle.core_laws.specs.places.WordIds.{levels, buckets_at}
 use Rattle.core_laws.specs.Worlds.{World}
 use Rattle.core_laws.specs.States.{State, shape_in, tree_at}
 use Rattle.core_laws.specs.places.Names.{named}

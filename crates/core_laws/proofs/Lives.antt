@@ -8,7 +8,7 @@ use Rattle.node_words.specs.declared.shapes.names.Name.{Name}
 use Rattle.node_words.specs.declared.keys.Key.{Key}
 use Rattle.node_words.specs.declared.keys.Key.TheVariants.{Leaf, Node}
 use Rattle.node_words.specs.Plans.{Layout}
-use Rattle.core_laws.specs.places.Spots.{versions}
+use Rattle.core_laws.specs.places.WordIds.{versions}
 use Rattle.core_laws.specs.States.{State, IsLive, Holds, IsUnder, itself, below}
 use Rattle.core_laws.specs.places.Names.{key_child}
 use Rattle.core_laws.specs.Counting.{weight, children_weight, entry_weight, booked, parented, rooted, holdings}

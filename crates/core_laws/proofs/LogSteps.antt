@@ -11,7 +11,7 @@ use Rattle.node_words.specs.declared.shapes.names.Name.{Name}
 use Rattle.node_words.specs.shapes.Shape.{ShowsCells}
 use Rattle.node_words.specs.shapes.Tree.{Tree, shape_of}
 use Rattle.node_words.specs.Plans.{Layout}
-use Rattle.core_laws.specs.places.Spots.{versions}
+use Rattle.core_laws.specs.places.WordIds.{versions}
 use Rattle.core_laws.specs.Record.{Record}
 use Rattle.core_laws.specs.Mark.{Mark}
 use Rattle.core_laws.specs.Logs.{Log, FitsWorld, IsLegal, MayFollowFrom}
@@ -22,7 +22,7 @@ use Rattle.core_laws.specs.LegalLaws.{legal_next}
 use Rattle.core_laws.specs.States.{State, tree_at}
 use Rattle.core_laws.specs.contents.Aligned.{top, world_block}
 use Rattle.core_laws.specs.Soundness.{SoundEntries, SoundVersions, Sound}
-use Rattle.core_laws.specs.contents.Versions.{IsUnmarked, IsKept}
+use Rattle.core_laws.specs.contents.Versions.{IsUnmarked, HoldsVersion}
 use Rattle.core_laws.specs.Events.{RootsStay, no_weight, at_most_one, KeysStay}
 use Rattle.core_laws.specs.LogEvents.{Appends, Forgets}
 use Rattle.core_laws.proofs.Sums.{weight_there}
@@ -65,12 +65,12 @@ pub versions_stay : (p : Layout) (models : List Content) (old new : State) → S
     → SoundVersions p models old → SoundVersions p models new
 versions_stay p models old new s t keys roots log v = record {
   legal = subst (λ (l : Log). IsLegal (2 ^ p.side) models l) (sym log) v.legal;
-  kept = λ w n e. subst (λ (l : Log). IsKept l w) (sym log) (v.kept w n (sym (roots w) ∙ e));
+  kept = λ w n e. subst (λ (l : Log). HoldsVersion l w) (sym log) (v.kept w n (sym (roots w) ∙ e));
   level = λ w n e. v.level w n (sym (roots w) ∙ e);
   shown = λ w kept. (
       let shown =
       shows_same p _ _ _ (root_stays p models old new s v t keys w (roots w))
-      (v.shown w (subst (λ (l : Log). IsKept l w) log kept)) in
+      (v.shown w (subst (λ (l : Log). HoldsVersion l w) log kept)) in
       subst (λ (l : Log). ShowsCells (world_block p.side)
       (shape_of (tree_at new.key (top p.side) (new.root w)))
       (stored_in (2 ^ p.side) models l.records w))

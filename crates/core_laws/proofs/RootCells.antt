@@ -10,7 +10,7 @@ use Rattle.node_words.specs.shapes.Shape.{Shape, Clear, ShowsCells}
 use Rattle.node_words.specs.shapes.Tree.{shape_of}
 use Rattle.node_words.proofs.OfShapes.ShowLaws.{clear_shows, clear_shown, shown_once}
 use Rattle.node_words.specs.Plans.{Layout}
-use Rattle.core_laws.specs.places.Spots.{versions}
+use Rattle.core_laws.specs.places.WordIds.{versions}
 use Rattle.core_laws.specs.Logs.{Log, IsLegal}
 use Rattle.core_laws.specs.LegalLaws.{legal_empty}
 use Rattle.core_laws.specs.Stores.{stored_in}
@@ -19,7 +19,7 @@ use Rattle.core_laws.specs.States.{State, IsLive, tree_at}
 use Rattle.core_laws.specs.contents.Aligned.{top, world_block}
 use Rattle.core_laws.specs.Counting.{weight, children_weight, if_live, booked, parented, rooted}
 use Rattle.core_laws.specs.Soundness.{Sound, IsUntouched}
-use Rattle.core_laws.specs.contents.Versions.{IsKept, SameWorld}
+use Rattle.core_laws.specs.contents.Versions.{HoldsVersion, SameWorld}
 use Rattle.core_laws.proofs.Sums.{sum_names-none}
 use Rattle.core_laws.proofs.OfContents.WorldBlocks.{in_world, in_block}
 use Rattle.core_laws.proofs.LiveShapes.{AreLive, shape_once, canonical_at, clear_at}
@@ -92,7 +92,7 @@ module _ (p : Layout) (models : List Content) (state : State) (low : 2 ≤ p.sid
       }
 
   -- versions with one root have the same cells
-  pub same_cells : (v w : ℕ) → IsKept state.log v → IsKept state.log w
+  pub same_cells : (v w : ℕ) → HoldsVersion state.log v → HoldsVersion state.log w
       → state.root v ≡ state.root w
       → SameWorld (2 ^ p.side) (stored_in (2 ^ p.side) models state.log.records v)
       (stored_in (2 ^ p.side) models state.log.records w)
@@ -107,7 +107,7 @@ module _ (p : Layout) (models : List Content) (state : State) (low : 2 ≤ p.sid
   }
 
   -- versions with the same cells have one root
-  pub same_root : (v w : ℕ) → IsKept state.log v → IsKept state.log w
+  pub same_root : (v w : ℕ) → HoldsVersion state.log v → HoldsVersion state.log w
       → SameWorld (2 ^ p.side) (stored_in (2 ^ p.side) models state.log.records v)
       (stored_in (2 ^ p.side) models state.log.records w)
       → state.root v ≡ state.root w
@@ -128,7 +128,7 @@ module _ (p : Layout) (models : List Content) (state : State) (low : 2 ≤ p.sid
       (root_live w)) shows_v shows_w)
 
   -- a version has no root just where it has no set cell
-  pub no_root_no_cell : (v : ℕ) → IsKept state.log v → state.root v ≡ None → (q : Cell)
+  pub no_root_no_cell : (v : ℕ) → HoldsVersion state.log v → state.root v ≡ None → (q : Cell)
       → IsInWorld (2 ^ p.side) q → stored_in (2 ^ p.side) models state.log.records v q ≡ false
   no_root_no_cell v of_v none q inside =
       clear_shown (world_block p.side) (stored_in (2 ^ p.side) models state.log.records v) q
@@ -138,7 +138,7 @@ module _ (p : Layout) (models : List Content) (state : State) (low : 2 ≤ p.sid
       ∙ clear_at state.key (top p.side)) (s.versions.shown v of_v))
       (in_block p.side q low inside)
 
-  pub no_cell_no_root : (v : ℕ) → IsKept state.log v
+  pub no_cell_no_root : (v : ℕ) → HoldsVersion state.log v
       → ((q : Cell) → IsInWorld (2 ^ p.side) q
       → stored_in (2 ^ p.side) models state.log.records v q ≡ false)
       → state.root v ≡ None

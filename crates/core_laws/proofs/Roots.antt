@@ -14,7 +14,7 @@ use Rattle.node_words.proofs.OfShapes.ShowLaws.{octant_shows, clear_shown}
 use Rattle.node_words.proofs.OfShapes.ShapeLaws.{octant_shape-clear}
 use Rattle.node_words.specs.declared.keys.Key.{Key}
 use Rattle.node_words.specs.Plans.{Layout}
-use Rattle.core_laws.specs.places.Spots.{versions}
+use Rattle.core_laws.specs.places.WordIds.{versions}
 use Rattle.core_laws.specs.Worlds.{World}
 use Rattle.core_laws.specs.Stores.{stored_in}
 use Rattle.core_laws.specs.States.{State, IsLive, tree_at, shape_in, IsUnder, itself, below}

@@ -4,14 +4,14 @@ use Rattle.std.proofs.lemmas.Bool.{cases_lt}
 use Rattle.std.proofs.lemmas.Option.{same_Some, none-some}
 use Rattle.node_words.specs.declared.shapes.names.Name.{Name}
 use Rattle.node_words.specs.shapes.Shape.{IsCanonical}
-use Rattle.node_words.specs.shapes.Tree.{Tree, root_of, child_of, shape_of, StandsIn, itself, below, IsTreeAt}
+use Rattle.node_words.specs.shapes.Tree.{Tree, root_of, child_of, shape_of, IsSubtree, itself, below, IsTreeAt}
 use Rattle.node_words.proofs.OfShapes.TreeLaws.{child_of-gone, child_of-node_at, child_of-node_at_past, gone_at, leaf_at, node_levels}
 use Rattle.node_words.specs.declared.keys.Key.{Key}
 use Rattle.node_words.specs.Plans.{Layout}
 use Rattle.node_words.specs.Held.{IsHeld, IsReached, IsTree, AreTrees, AreCanonical}
 use Rattle.core_laws.specs.places.Names.{key_bits, key_child}
 use Rattle.core_laws.specs.States.{State, IsLive, tree_at, tree_of}
-use Rattle.core_laws.specs.Standing.{Stands, StandsOrGone, AllStand}
+use Rattle.core_laws.specs.LiveTrees.{IsLiveTree, IsLiveOrGone, AreLiveTrees}
 use Rattle.core_laws.specs.Soundness.{SoundEntries}
 use Rattle.core_laws.proofs.Lives.{child_lives, child_level}
 use Rattle.core_laws.proofs.SeenNodes.{gone_tree, leaf_tree, node_tree}
@@ -22,12 +22,12 @@ unfolding tree_at
 root_at key zero n = refl
 root_at key (suc level) n = refl
 
-root_stands : (p : Layout) (state : State) (t : Tree) (s : Stands p state t)
+root_stands : (p : Layout) (state : State) (t : Tree) (s : IsLiveTree p state t)
     → root_of t ≡ Some s.name
 root_stands p state t s = ap root_of (sym s.tree) ∙ root_at state.key s.name.level s.name
 
 -- the tree of a name that a tree has as its root, where that stands or is gone
-standing_at : (p : Layout) (state : State) (t : Tree) (n : Name) → StandsOrGone p state t
+standing_at : (p : Layout) (state : State) (t : Tree) (n : Name) → IsLiveOrGone p state t
     → root_of t ≡ Some n → IsLive p state n × (tree_of state n ≡ t)
 standing_at p state t n (inl gone) e = absurd (none-some n (ap root_of (sym gone) ∙ e))
 standing_at p state t n (inr s) e =
@@ -39,7 +39,7 @@ standing_at p state t n (inr s) e =
 module _ (p : Layout) (state : State) (sound : SoundEntries p state) where
   at_child : (level : ℕ) (n : Name) (k : ℕ) (o : Option Name) → IsLive p state n
       → n.level ≡ suc level → k < 8 → key_child (state.key n) k ≡ o
-      → StandsOrGone p state (tree_at state.key level o)
+      → IsLiveOrGone p state (tree_at state.key level o)
   at_child level n k None live of lt e = inl (gone_tree state.key level)
   at_child level n k (Some m) live of lt e =
       let lower = child_level n.level (state.key n) m k (sound.fits n live) lt e in
@@ -51,14 +51,14 @@ module _ (p : Layout) (state : State) (sound : SoundEntries p state) where
       })
 
   child_stands : (k level : ℕ) (n : Name) → IsLive p state n → n.level ≡ level
-      → StandsOrGone p state (child_of (tree_of state n) k)
+      → IsLiveOrGone p state (child_of (tree_of state n) k)
   child_stands k zero n live of =
       inl (ap (λ (t : Tree). child_of t k) (leaf_tree state.key n.level n of) ∙ refl)
   child_stands k (suc level) n live of =
       let node = ap (λ (t : Tree). child_of t k) (node_tree state.key n.level level n of) in
       elim (cases_lt k 8) [
         | inl lt ↦
-            subst (λ (t : Tree). StandsOrGone p state t)
+            subst (λ (t : Tree). IsLiveOrGone p state t)
             (sym (node
             ∙ child_of-node_at n
             (λ j. tree_at state.key level (key_child (state.key n) j)) k lt))
@@ -69,13 +69,13 @@ module _ (p : Layout) (state : State) (sound : SoundEntries p state) where
             (λ j. tree_at state.key level (key_child (state.key n) j)) k past)
       ]
 
-  standing_child : (t : Tree) (k : ℕ) → StandsOrGone p state t → StandsOrGone p state (child_of t k)
+  standing_child : (t : Tree) (k : ℕ) → IsLiveOrGone p state t → IsLiveOrGone p state (child_of t k)
   standing_child t k (inl gone) = inl (ap (λ (u : Tree). child_of u k) gone ∙ child_of-gone k)
   standing_child t k (inr s) =
-      subst (λ (u : Tree). StandsOrGone p state (child_of u k)) s.tree
+      subst (λ (u : Tree). IsLiveOrGone p state (child_of u k)) s.tree
       (child_stands k s.name.level s.name s.live refl)
 
-  pub parts_stand : (t u : Tree) → StandsIn t u → StandsOrGone p state u → StandsOrGone p state t
+  pub parts_stand : (t u : Tree) → IsSubtree t u → IsLiveOrGone p state u → IsLiveOrGone p state t
   parts_stand t u itself s = s
   parts_stand t u (below k more) s = parts_stand t (child_of u k) more (standing_child u k s)
 
@@ -108,7 +108,7 @@ module _ (p : Layout) (state : State) (sound : SoundEntries p state) where
         ap (λ (x : Name). x.level) (sym same),
       )))
 
-  tree_stands : (held : List Tree) → AllStand p state held → (t : Tree) → IsHeld held t
+  tree_stands : (held : List Tree) → AreLiveTrees p state held → (t : Tree) → IsHeld held t
       → IsTree p.side t
   tree_stands held all t h =
       let s = all.each t h in
@@ -120,11 +120,11 @@ module _ (p : Layout) (state : State) (sound : SoundEntries p state) where
         levels = subst (λ (u : Tree). IsTreeAt s.name.level u) s.tree (levels_of s.name s.live);
       }
 
-  reached_stands : (held : List Tree) → AllStand p state held → (t : Tree) → IsReached held t
-      → StandsOrGone p state t
+  reached_stands : (held : List Tree) → AreLiveTrees p state held → (t : Tree) → IsReached held t
+      → IsLiveOrGone p state t
   reached_stands held all t r = parts_stand t r.over r.stands (inr (all.each r.over r.is_held))
 
-  one_tree : (t u : Tree) → StandsOrGone p state t → StandsOrGone p state u → root_of t ≡ root_of u
+  one_tree : (t u : Tree) → IsLiveOrGone p state t → IsLiveOrGone p state u → root_of t ≡ root_of u
       → t ≡ u
   one_tree t u (inl gone) (inl none) same = gone ∙ sym none
   one_tree t u (inl gone) (inr s) same =
@@ -133,7 +133,7 @@ module _ (p : Layout) (state : State) (sound : SoundEntries p state) where
       ∙ (standing_at p state u s.name over (sym same ∙ root_stands p state t s)).1
 
   -- trees that stand are trees of the world, one for each name
-  pub standing_trees : (held : List Tree) → AllStand p state held → AreTrees p.side held
+  pub standing_trees : (held : List Tree) → AreLiveTrees p state held → AreTrees p.side held
   standing_trees held all = record {
     each = tree_stands held all;
     named = λ t u of_t of_u same. one_tree t u (reached_stands held all t of_t)
@@ -141,7 +141,7 @@ module _ (p : Layout) (state : State) (sound : SoundEntries p state) where
   }
 
   -- their shapes are canonical
-  pub standing_canonical : (held : List Tree) → AllStand p state held → AreCanonical held
+  pub standing_canonical : (held : List Tree) → AreLiveTrees p state held → AreCanonical held
   standing_canonical held all = record {
     each = λ t n h e. (
         let r = standing_at p state t n (inr (all.each t h)) e in

@@ -5,7 +5,7 @@ use Rattle.vw_cell.specs.Sums.{sum_below, sum_below-same, sum_below-change, sum_
 use Rattle.node_words.specs.declared.shapes.names.Name.{Name}
 use Rattle.node_words.proofs.OfShapes.TreeEqual.{Name-discrete}
 use Rattle.node_words.specs.Plans.{Layout}
-use Rattle.core_laws.specs.places.Spots.{levels, buckets_at}
+use Rattle.core_laws.specs.places.WordIds.{levels, buckets_at}
 use Rattle.core_laws.specs.places.Names.{IsName}
 use Rattle.core_laws.specs.places.Names.{named}
 use Rattle.core_laws.specs.Counting.{sum_names, weight, if_live}

@@ -13,7 +13,7 @@ use Rattle.core_laws.specs.Logs.{Log, FitsWorld, HasTarget, MayFollow, IsVersion
 use Rattle.core_laws.specs.Stores.{stored_in}
 use Rattle.core_laws.specs.States.{State}
 use Rattle.core_laws.specs.Soundness.{Sound}
-use Rattle.core_laws.specs.contents.Versions.{IsKept}
+use Rattle.core_laws.specs.contents.Versions.{HoldsVersion}
 use Rattle.core_laws.specs.Making.{version_gone_to}
 use Rattle.core_laws.specs.LogEvents.{MayAppend}
 
@@ -22,7 +22,7 @@ abbrev AreDated : Log → Type 0
 AreDated log = All (λ mark. (mark.version < mark.at) × (mark.at ≤ length log.records)) log.marks
 
 held_kept : (log : Log) (to : ℕ) → AreDated log → to < length log.records + 1
-    → IsVersionHeld log.marks (length log.records + 1) to → IsKept log to
+    → IsVersionHeld log.marks (length log.records + 1) to → HoldsVersion log to
 held_kept log to dated below held =
     record {
       there = omega arith;
@@ -34,21 +34,21 @@ held_kept log to dated below held =
 
 undo_kept : (log : Log) (past : List ℕ) (now : ℕ) (future : List ℕ) → AreDated log
     → All (λ v. v < length log.records + 1) past
-    → HasTarget log.marks (length log.records + 1) past → IsKept log (undone past now future).now
+    → HasTarget log.marks (length log.records + 1) past → HoldsVersion log (undone past now future).now
 undo_kept log [] now future dated below has = absurd has
 undo_kept log (to ∷ past) now future dated below has =
     held_kept log to dated (below 0 0 (omega arith)) has
 
 redo_kept : (log : Log) (past : List ℕ) (now : ℕ) (future : List ℕ) → AreDated log
     → All (λ v. v < length log.records + 1) future
-    → HasTarget log.marks (length log.records + 1) future → IsKept log (redone past now future).now
+    → HasTarget log.marks (length log.records + 1) future → HoldsVersion log (redone past now future).now
 redo_kept log past now [] dated below has = absurd has
 redo_kept log past now (to ∷ future) dated below has =
     held_kept log to dated (below 0 0 (omega arith)) has
 
 pub target_kept : (log : Log) (act : Act) → AreDated log → is_edit act ≡ false
     → MayFollow log.marks (length log.records + 1) act (position_after log.records)
-    → IsKept log (version_gone_to log.records act)
+    → HoldsVersion log (version_gone_to log.records act)
 target_kept log (Fill b) dated other may = absurd (let no : ⊥ = cc in no)
 target_kept log (Erase b) dated other may = absurd (let no : ⊥ = cc in no)
 target_kept log (Ball b) dated other may = absurd (let no : ⊥ = cc in no)
@@ -80,7 +80,7 @@ pub may_go : (p : Layout) (models : List Content) (r : Record) (state : State)
     → MayAppend p models r (state.root (version_gone_to state.log.records r.act)) state
 may_go p models r state s room other may =
     let to : ℕ = version_gone_to state.log.records r.act in
-    let kept : IsKept state.log to =
+    let kept : HoldsVersion state.log to =
     target_kept state.log r.act s.versions.legal.marked other may in
     record {
       room = room;

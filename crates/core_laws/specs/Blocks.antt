@@ -10,7 +10,7 @@ use Rattle.node_words.specs.shapes.Shape.{Shape, Clear, ShowsCells, IsCanonical}
 use Rattle.node_words.specs.shapes.Tree.{shape_of}
 use Rattle.node_words.specs.Plans.{Layout}
 use Rattle.core_laws.specs.places.Names.{named}
-use Rattle.core_laws.specs.places.Spots.{buckets_at, versions}
+use Rattle.core_laws.specs.places.WordIds.{buckets_at, versions}
 use Rattle.core_laws.specs.contents.Aligned.{top, world_block, IsAligned}
 use Rattle.core_laws.specs.contents.Contents.{HasCellIn}
 use Rattle.core_laws.specs.States.{State, tree_at}

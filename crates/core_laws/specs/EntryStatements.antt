@@ -5,7 +5,7 @@ use Rattle.node_words.specs.declared.keys.Key.{Key}
 use Rattle.node_words.specs.Keys.{bucket_of_key}
 use Rattle.node_words.specs.Plans.{Layout}
 use Rattle.core_laws.specs.places.Names.{named, key_child}
-use Rattle.core_laws.specs.places.Spots.{levels, buckets_at, versions}
+use Rattle.core_laws.specs.places.WordIds.{levels, buckets_at, versions}
 use Rattle.core_laws.specs.States.{State, IsLive, IsUnder, Holds}
 use Rattle.core_laws.specs.Counting.{holdings}
 use Rattle.core_laws.specs.Soundness.{SoundEntries}

@@ -7,7 +7,7 @@ use Rattle.node_words.specs.declared.keys.Key.{Key}
 use Rattle.node_words.specs.Keys.{bucket_of_key}
 use Rattle.node_words.specs.Plans.{Layout}
 use Rattle.core_laws.specs.places.Names.{IsName}
-use Rattle.core_laws.specs.places.Spots.{buckets_at, versions}
+use Rattle.core_laws.specs.places.WordIds.{buckets_at, versions}
 use Rattle.core_laws.specs.States.{State, IsLive}
 use Rattle.core_laws.specs.Counting.{weight, children_weight}
 use Rattle.core_laws.specs.Soundness.{FitsLevel}

@@ -1,5 +1,5 @@
 pub mod States
-pub mod Standing
+pub mod LiveTrees
 pub mod Counting
 pub mod Soundness
 pub mod Making

@@ -11,7 +11,7 @@ use Rattle.core_laws.specs.Worlds.{World}
 use Rattle.core_laws.specs.Positions.{position_after}
 use Rattle.core_laws.specs.Logs.{FitsWorld, MayFollow}
 use Rattle.core_laws.specs.contents.Aligned.{top, world_block}
-use Rattle.core_laws.specs.contents.Versions.{IsKept, MarkComes}
+use Rattle.core_laws.specs.contents.Versions.{HoldsVersion, InsertsMark}
 use Rattle.core_laws.specs.States.{State, tree_at}
 use Rattle.core_laws.specs.Counting.{holdings}
 use Rattle.core_laws.specs.Making.{Makes}
@@ -49,12 +49,12 @@ pub record Forgets (p : Layout) (holder : ℕ) (mark : Mark) (old new : State) :
   pub side : new.log.side ≡ old.log.side
   pub coloured : new.log.coloured ≡ old.log.coloured
   pub records : new.log.records ≡ old.log.records
-  pub marks : MarkComes old.log.marks mark new.log.marks
+  pub marks : InsertsMark old.log.marks mark new.log.marks
   pub takes : TakesRoot p holder mark.version old new
 
 -- a version that is kept is looked up: the holder takes a share of its root, where it has one
 pub record Pins (p : Layout) (holder v : ℕ) (old new : State) : Type 0 where
-  pub kept : IsKept old.log v
+  pub kept : HoldsVersion old.log v
   pub empty : old.root v ≡ None → Rests p old new
   pub root : (n : Name) → old.root v ≡ Some n → Raises p holder n old new
 

@@ -6,11 +6,11 @@ use Rattle.vw_cell.specs.declared.blocks.Block.{Block}
 use Rattle.core_laws.specs.HistoryModelContents.{Content}
 use Rattle.node_words.specs.shapes.Shape.{Shape, ShowsCells, has}
 use Rattle.node_words.specs.Plans.{Layout}
-use Rattle.core_laws.specs.places.Spots.{levels}
+use Rattle.core_laws.specs.places.WordIds.{levels}
 use Rattle.core_laws.specs.Worlds.{World}
 use Rattle.core_laws.specs.contents.Aligned.{world_block}
 use Rattle.core_laws.specs.contents.Contents.{HasContents}
-use Rattle.core_laws.specs.contents.Versions.{IsKept}
+use Rattle.core_laws.specs.contents.Versions.{HoldsVersion}
 use Rattle.core_laws.specs.States.{State}
 use Rattle.core_laws.specs.Soundness.{SoundEntries, SoundVersions, Sound}
 use Rattle.core_laws.specs.Blocks.{IsIdle, RootsShow, HasBlocks, live_number}
@@ -43,4 +43,4 @@ LiveEntriesAreContents = (p : Layout) (models : List Content) (state : State) (l
     → 2 ≤ p.side
     → Sound p models state → IsIdle state → level < levels p
     → HasContents (world_block p.side) (cells_at p models state)
-    (IsKept state.log) level (live_number p state level)
+    (HoldsVersion state.log) level (live_number p state level)

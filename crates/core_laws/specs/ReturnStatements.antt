@@ -8,7 +8,7 @@ use Rattle.node_words.specs.Held.{IsHeld, ReturnsWithin}
 use Rattle.node_words.specs.Plans.{Layout}
 use Rattle.core_laws.specs.places.Names.{IsName}
 use Rattle.core_laws.specs.States.{State, shape_in}
-use Rattle.core_laws.specs.Standing.{AllStand}
+use Rattle.core_laws.specs.LiveTrees.{AreLiveTrees}
 use Rattle.core_laws.specs.Soundness.{SoundEntries}
 use Rattle.core_laws.specs.Returning.{OneBookChanges, FreesParts}
 
@@ -41,7 +41,7 @@ NothingIsFreed =
 abbrev pub FreedPartsAreUnheld : Type 0
 FreedPartsAreUnheld =
     (p : Layout) (state : State) (before : Name → ℕ) (held : List Tree) (s : Shape) (steps now : ℕ)
-    → SoundEntries p state → AllStand p state held
+    → SoundEntries p state → AreLiveTrees p state held
     → FreesParts p state.key s 1 before state.book steps now → ReturnsWithin held s steps now
 
 -- where a tree of the whole shape is held still, nothing was freed
@@ -49,5 +49,5 @@ abbrev pub HeldShapesFreeNothing : Type 0
 HeldShapesFreeNothing =
     (p : Layout) (state : State) (before : Name → ℕ) (held : List Tree) (t : Tree) (s : Shape)
     (first steps now : ℕ)
-    → SoundEntries p state → AllStand p state held → IsHeld held t → shape_of t ≡ s
+    → SoundEntries p state → AreLiveTrees p state held → IsHeld held t → shape_of t ≡ s
     → FreesParts p state.key s first before state.book steps now → now ≤ steps + first

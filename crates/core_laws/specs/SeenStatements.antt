@@ -8,7 +8,7 @@ use Rattle.node_words.specs.Held.{Gains, Joins, AreTrees, AreCanonical}
 use Rattle.node_words.specs.Plans.{Layout}
 use Rattle.core_laws.specs.places.Names.{key_child}
 use Rattle.core_laws.specs.States.{State, tree_at, tree_of, trees_of}
-use Rattle.core_laws.specs.Standing.{AllStand}
+use Rattle.core_laws.specs.LiveTrees.{AreLiveTrees}
 use Rattle.core_laws.specs.Soundness.{SoundEntries}
 use Rattle.core_laws.specs.Events.{Raises, Adds, Lowers, Frees}
 
@@ -47,11 +47,11 @@ FreedNodesGiveTheirChildren = (p : Layout) (holder : ℕ) (n : Name) (old new : 
     (λ k. tree_at old.key level (key_child (old.key n) k)) n (trees_of old e.held.before)
 
 -- trees that stand in a state are trees of its world, one for each name that they reach
-abbrev pub StandingTreesAreTrees : Type 0
-StandingTreesAreTrees = (p : Layout) (state : State) (held : List Tree) → SoundEntries p state
-    → AllStand p state held → AreTrees p.side held
+abbrev pub LiveTreesAreTrees : Type 0
+LiveTreesAreTrees = (p : Layout) (state : State) (held : List Tree) → SoundEntries p state
+    → AreLiveTrees p state held → AreTrees p.side held
 
 -- the shapes of trees that stand in a state are canonical
-abbrev pub StandingTreesAreCanonical : Type 0
-StandingTreesAreCanonical = (p : Layout) (state : State) (held : List Tree) → SoundEntries p state
-    → AllStand p state held → AreCanonical held
+abbrev pub LiveTreesAreCanonical : Type 0
+LiveTreesAreCanonical = (p : Layout) (state : State) (held : List Tree) → SoundEntries p state
+    → AreLiveTrees p state held → AreCanonical held

@@ -4,12 +4,12 @@ use Rattle.std.specs.List.{Contains}
 use Rattle.node_words.specs.declared.shapes.names.Name.{Name}
 use Rattle.node_words.specs.shapes.Buckets.{bucket_of_shape}
 use Rattle.node_words.specs.shapes.Shape.{Shape, Clear, IsCanonical, IsPart}
-use Rattle.node_words.specs.shapes.Tree.{Tree, Gone, LeafAt, node_at, StandsIn, IsTreeAt}
+use Rattle.node_words.specs.shapes.Tree.{Tree, Gone, LeafAt, node_at, IsSubtree, IsTreeAt}
 use Rattle.node_words.specs.declared.keys.Key.{Key}
 use Rattle.node_words.specs.Plans.{Layout}
 use Rattle.core_laws.specs.places.Names.{named, key_bits, key_child}
 use Rattle.core_laws.specs.States.{State, IsLive, tree_at, tree_of, shape_in}
-use Rattle.core_laws.specs.Standing.{StandsOrGone}
+use Rattle.core_laws.specs.LiveTrees.{IsLiveOrGone}
 use Rattle.node_words.specs.Enough.{HasEnough}
 use Rattle.core_laws.specs.Soundness.{SoundEntries, IsFull}
 use Rattle.core_laws.specs.Returning.{IsShapeStored}
@@ -35,9 +35,9 @@ LiveTreesHaveLevels = (p : Layout) (state : State) (n : Name) → SoundEntries p
     → IsTreeAt n.level (tree_of state n)
 
 -- what stands in a tree that stands in a state stands in the state
-abbrev pub PartsStand : Type 0
-PartsStand = (p : Layout) (state : State) (t u : Tree) → SoundEntries p state → StandsIn t u
-    → StandsOrGone p state u → StandsOrGone p state t
+abbrev pub PartsAreLive : Type 0
+PartsAreLive = (p : Layout) (state : State) (t u : Tree) → SoundEntries p state → IsSubtree t u
+    → IsLiveOrGone p state u → IsLiveOrGone p state t
 
 -- the shape of a live entry is canonical, and isn't clear
 abbrev pub LiveShapesAreCanonical : Type 0

@@ -12,11 +12,11 @@ use Rattle.node_words.specs.Held.{HasChild, AreBelow}
 use Rattle.node_words.specs.Keys.{bucket_of_key}
 use Rattle.node_words.specs.Plans.{Layout}
 use Rattle.core_laws.specs.places.Names.{IsName, named}
-use Rattle.core_laws.specs.places.Spots.{levels, buckets_at}
+use Rattle.core_laws.specs.places.WordIds.{levels, buckets_at}
 use Rattle.core_laws.specs.Logs.{IsLegal}
 use Rattle.core_laws.specs.Stores.{stored_in}
 use Rattle.core_laws.specs.contents.Aligned.{top, world_block}
-use Rattle.core_laws.specs.contents.Versions.{IsKept}
+use Rattle.core_laws.specs.contents.Versions.{HoldsVersion}
 use Rattle.core_laws.specs.States.{State, IsLive, tree_at}
 use Rattle.core_laws.specs.Counting.{booked, parented, rooted, holdings}
 
@@ -46,9 +46,9 @@ pub record SoundEntries (p : Layout) (state : State) : Type 0 where
 -- none
 pub record SoundVersions (p : Layout) (models : List Content) (state : State) : Type 0 where
   pub legal : IsLegal (2 ^ p.side) models state.log
-  pub kept : (v : ℕ) (n : Name) → state.root v ≡ Some n → IsKept state.log v
+  pub kept : (v : ℕ) (n : Name) → state.root v ≡ Some n → HoldsVersion state.log v
   pub level : (v : ℕ) (n : Name) → state.root v ≡ Some n → n.level ≡ top p.side
-  pub shown : (v : ℕ) → IsKept state.log v
+  pub shown : (v : ℕ) → HoldsVersion state.log v
       → ShowsCells (world_block p.side) (shape_of (tree_at state.key (top p.side) (state.root v)))
       (stored_in (2 ^ p.side) models state.log.records v)
 

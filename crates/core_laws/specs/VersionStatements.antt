@@ -9,7 +9,7 @@ use Rattle.core_laws.specs.Logs.{MayFollow}
 use Rattle.core_laws.specs.Stores.{stored_in}
 use Rattle.core_laws.specs.Positions.{position_after}
 use Rattle.core_laws.specs.Worlds.{World, is_edit}
-use Rattle.core_laws.specs.contents.Versions.{IsKept, SameWorld}
+use Rattle.core_laws.specs.contents.Versions.{HoldsVersion, SameWorld}
 use Rattle.core_laws.specs.States.{State}
 use Rattle.core_laws.specs.Soundness.{Sound, IsUntouched}
 use Rattle.core_laws.specs.Making.{version_gone_to}
@@ -28,14 +28,14 @@ cells_at p models state v = stored_in (2 ^ p.side) models state.log.records v
 abbrev pub OneRootOneWorld : Type 0
 OneRootOneWorld = (p : Layout) (models : List Content) (state : State) (v w : ℕ) → 2 ≤ p.side
     → Sound p models state
-    → IsKept state.log v → IsKept state.log w → state.root v ≡ state.root w
+    → HoldsVersion state.log v → HoldsVersion state.log w → state.root v ≡ state.root w
     → SameWorld (2 ^ p.side) (cells_at p models state v) (cells_at p models state w)
 
 -- two versions that are kept and have the same cells have one root
 abbrev pub OneWorldOneRoot : Type 0
 OneWorldOneRoot = (p : Layout) (models : List Content) (state : State) (v w : ℕ) → 2 ≤ p.side
     → Sound p models state
-    → IsKept state.log v → IsKept state.log w
+    → HoldsVersion state.log v → HoldsVersion state.log w
     → SameWorld (2 ^ p.side) (cells_at p models state v) (cells_at p models state w)
     → state.root v ≡ state.root w
 
@@ -43,25 +43,25 @@ OneWorldOneRoot = (p : Layout) (models : List Content) (state : State) (v w : �
 abbrev pub NoRootNoCell : Type 0
 NoRootNoCell = (p : Layout) (models : List Content) (state : State) (v : ℕ) (q : Cell) → 2 ≤ p.side
     → Sound p models state
-    → IsKept state.log v → state.root v ≡ None → IsInWorld (2 ^ p.side) q
+    → HoldsVersion state.log v → state.root v ≡ None → IsInWorld (2 ^ p.side) q
     → cells_at p models state v q ≡ false
 
 -- a version with no set cell has no root
 abbrev pub NoCellNoRoot : Type 0
 NoCellNoRoot = (p : Layout) (models : List Content) (state : State) (v : ℕ) → 2 ≤ p.side
     → Sound p models state
-    → IsKept state.log v
+    → HoldsVersion state.log v
     → ((q : Cell) → IsInWorld (2 ^ p.side) q → cells_at p models state v q ≡ false)
     → state.root v ≡ None
 
 -- the version that an undo or a redo goes to is kept
-abbrev pub TargetsAreKept : Type 0
-TargetsAreKept = (p : Layout) (models : List Content) (r : Record) (state : State)
+abbrev pub TargetsAreHeld : Type 0
+TargetsAreHeld = (p : Layout) (models : List Content) (r : Record) (state : State)
     → Sound p models state
     → is_edit r.act ≡ false
     → MayFollow state.log.marks (length state.log.records + 1) r.act
     (position_after state.log.records)
-    → IsKept state.log (version_gone_to state.log.records r.act)
+    → HoldsVersion state.log (version_gone_to state.log.records r.act)
 
 -- and its root may be appended
 abbrev pub TargetsMayBeAppended : Type 0

@@ -1,4 +1,4 @@
-pub mod Spots
+pub mod WordIds
 pub mod Words
 pub mod Firsts
 pub mod Names

@@ -30,7 +30,7 @@ pub use places::{
     words_can_be_told,
 };
 pub use returns::freed_parts_are_different;
-pub use seen::{holders_are_seen_by_trees, standing_trees_are_trees};
+pub use seen::{holders_are_seen_by_trees, live_trees_are_trees};
 pub use shapes::{full_buckets_have_enough, shapes_are_stored_once, trees_stand_by_levels};
 pub use steps::{steps_keep_soundness, store_steps_keep_soundness};
 pub use tints::{

@@ -1,7 +1,8 @@
 //! Where the words of a store and of its log stand in one table, and what a key's words say.
 //!
 //! A plan decides all places; no word is read or written here. Where each stands is in
-//! `specs/places/Spots.antt`, what a child's word says in `specs/places/Words.antt`, and a key's in
+//! `specs/places/WordIds.antt`, what a child's word says in `specs/places/Words.antt`, and a key's
+//! in
 //! `specs/places/KeyWords.antt`.
 
 mod laws;

@@ -1,7 +1,7 @@
 ghost use Rattle.core_laws.specs.SeenStatements.{FreedNodesGiveTheirChildren, LeavesAreGained};
 ghost use Rattle.core_laws.specs.SeenStatements.{LowersAreLost, NodesTakeTheirChildren};
-ghost use Rattle.core_laws.specs.SeenStatements.{RaisesAreGained, StandingTreesAreCanonical};
-ghost use Rattle.core_laws.specs.SeenStatements.{StandingTreesAreTrees};
+ghost use Rattle.core_laws.specs.SeenStatements.{RaisesAreGained, LiveTreesAreCanonical};
+ghost use Rattle.core_laws.specs.SeenStatements.{LiveTreesAreTrees};
 
 /// Whoever raises an entry is seen to gain its tree, and whoever lowers one is seen to lose it;
 /// children join a new node, and part from one that is freed.
@@ -14,7 +14,7 @@ pub fn holders_are_seen_by_trees()
 {}
 
 /// Held trees that stand in a sound state are as a store of nodes promises them.
-pub fn standing_trees_are_trees()
-    ensures trees { StandingTreesAreTrees }
-    ensures canonical { StandingTreesAreCanonical }
+pub fn live_trees_are_trees()
+    ensures trees { LiveTreesAreTrees }
+    ensures canonical { LiveTreesAreCanonical }
 {}

@@ -1,7 +1,7 @@
 ghost use Rattle.core_laws.specs.ShapeStatements.{FullBucketsHaveEnough, GoneTrees, LeafTrees};
 ghost use Rattle.core_laws.specs.ShapeStatements.{LiveShapesAreCanonical};
 ghost use Rattle.core_laws.specs.ShapeStatements.{LiveShapesHaveTheirBuckets, LiveTreesHaveLevels};
-ghost use Rattle.core_laws.specs.ShapeStatements.{NodeTrees, PartsAreStored, PartsStand};
+ghost use Rattle.core_laws.specs.ShapeStatements.{NodeTrees, PartsAreStored, PartsAreLive};
 ghost use Rattle.core_laws.specs.ShapeStatements.{ShapesAreStoredOnce};
 
 /// The tree of a name by its level, and what stands in a tree.
@@ -10,7 +10,7 @@ pub fn trees_stand_by_levels()
     ensures leaf { LeafTrees }
     ensures node { NodeTrees }
     ensures levels { LiveTreesHaveLevels }
-    ensures parts { PartsStand }
+    ensures parts { PartsAreLive }
 {}
 
 /// Live entries of one shape are one. Their shapes are canonical and stand in their own buckets.

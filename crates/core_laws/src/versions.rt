@@ -1,5 +1,5 @@
 ghost use Rattle.core_laws.specs.VersionStatements.{NoCellNoRoot, NoRootNoCell, OneRootOneWorld};
-ghost use Rattle.core_laws.specs.VersionStatements.{OneWorldOneRoot, TargetsAreKept};
+ghost use Rattle.core_laws.specs.VersionStatements.{OneWorldOneRoot, TargetsAreHeld};
 ghost use Rattle.core_laws.specs.VersionStatements.{TargetsMayBeAppended, UntouchedStatesAreSound};
 
 /// A state in which nothing was done yet is sound.
@@ -18,6 +18,6 @@ pub fn roots_tell_cells()
 
 /// The version that an undo or a redo goes to is kept, and its root may be appended.
 pub fn targets_may_be_appended()
-    ensures kept { TargetsAreKept }
+    ensures kept { TargetsAreHeld }
     ensures append { TargetsMayBeAppended }
 {}

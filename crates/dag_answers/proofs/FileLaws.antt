@@ -1,26 +1,24 @@
 -- The file of the roots of a history's versions is the file of the history.
-use Rattle.std.proofs.Common.{◌≡◌, ℕ, suc, ◌-◌, ◌^◌, ◌<◌, ◌≤◌, ◌↔◌, List, length, get_or, Some, sym, ap, subst, ◌∙◌, arith}
+use Rattle.std.proofs.Common.{◌≡◌, ℕ, suc, ◌-◌, ◌^◌, ◌<◌, ◌≤◌, List, length, get_or, Some, sym, ap, subst, ◌∙◌, arith}
 use Rattle.std.specs.Prelude.{slice_get}
 use Rattle.std.specs.List.{Contains}
 use Rattle.std.proofs.lemmas.Option.{get_or_from_slice_get, slice_get_within}
 use Rattle.vw_cell.specs.declared.cells.Cell.{Cell}
 use Rattle.vw_cell.specs.Places.{IsInWorld, IsInBlock}
 use Rattle.vox_read.specs.Contents.{Content}
-use Rattle.history_model.specs.declared.histories.Record.{Record}
 use Rattle.history_model.specs.Logs.{Log}
-use Rattle.history_model.specs.Stores.{stored_in, store_has}
+use Rattle.history_model.specs.Stores.{store_has}
 use Rattle.node_words.specs.shapes.Shape.{Shape, has}
 use Rattle.node_words.specs.shapes.Tree.{Tree, shape_of}
 use Rattle.node_words.proofs.HeldLaws.{held_reached}
-use Rattle.core_laws.specs.contents.Versions.{IsKept, SameWorld}
+use Rattle.core_laws.specs.contents.Versions.{HoldsVersion, SameWorld}
 use Rattle.core_laws.proofs.OfContents.WorldBlocks as blocks
 use Rattle.node_words.specs.descent.Roots.{HoldsRoot, IsBlockOf}
 use Rattle.edit_walk.specs.cells.Worlds.{block_at_origin}
-use Rattle.store_run.specs.Marked.{Rooted, ShowsVersion, HoldsKept}
+use Rattle.store_run.specs.Marked.{Rooted, ShowsVersion, HoldsVersions}
 use Rattle.dag_file.specs.Kept.{version_shape}
 use Rattle.dag_file.specs.Lists.{HoldsList, DoNumbersRise, AreNumbersSmall, IsFileOfList}
 use Rattle.dag_file.specs.Places.{versions_in}
-use Rattle.dag_file.specs.Rules.{IsDagFile}
 use Rattle.dag_file.specs.Trees.{IsVersion, HasVersion}
 use Rattle.dag_file.proofs.ListLaws.{there}
 use Rattle.dag_answers.specs.Histories.{IsFileOfHistory}
@@ -36,7 +34,7 @@ one_some : (roots : List Rooted) (v : ℕ) (x y : Rooted) → slice_get roots v 
 one_some roots v x y is at = sym (get_or_from_slice_get roots v x y is) ∙ at
 
 module _ (models : List Content) (log : Log) (held : List Tree) (roots : List Rooted)
-    (low : 2 ≤ log.side) (kept : HoldsKept log.side models log held roots) where
+    (low : 2 ≤ log.side) (kept : HoldsVersions log.side models log held roots) where
   same_side : log.side ≡ suc (log.side - 1)
   same_side = omega (arith, low)
 
@@ -69,13 +67,13 @@ module _ (models : List Content) (log : Log) (held : List Tree) (roots : List Ro
         → slice_get roots i ≡ Some x → x.0 ≡ v
     numbered v i is x at = sym (of.numbers i x at) ∙ is.is
 
-    has_kept : (v : ℕ) → HasVersion file (log.side - 1) v → IsKept log v
+    has_kept : (v : ℕ) → HasVersion file (log.side - 1) v → HoldsVersion log v
     has_kept v has =
         let found = at_place has.0 has.1.below in
-        subst (λ (n : ℕ). IsKept log n) (numbered v has.0 has.1 found.0 found.1)
+        subst (λ (n : ℕ). HoldsVersion log n) (numbered v has.0 has.1 found.0 found.1)
         (kept.versions.listed found.0 (is_in roots has.0 found.0 found.1))
 
-    kept_has : (v : ℕ) → IsKept log v → HasVersion file (log.side - 1) v
+    kept_has : (v : ℕ) → HoldsVersion log v → HasVersion file (log.side - 1) v
     kept_has v is =
         let all = kept.versions.all v is in
         let i = all.1.0 in
@@ -142,23 +140,3 @@ module _ (models : List Content) (log : Log) (held : List Tree) (roots : List Ro
       versions = λ v. (has_kept v, kept_has v);
       cells = cells_are;
     }
-
--- a history with the same records and the same versions that are kept has the same file
-pub file_stays : (models : List Content) (old new : Log) (file : List ℕ) → old.side ≡ new.side
-    → old.records ≡ new.records → ((v : ℕ) → IsKept old v → IsKept new v)
-    → ((v : ℕ) → IsKept new v → IsKept old v) → IsFileOfHistory models old file
-    → IsFileOfHistory models new file
-file_stays models old new file side records to back is = record {
-  bytes = is.bytes;
-  right = subst (λ (s : ℕ). IsDagFile file (s - 1)) side is.right;
-  versions = λ v.
-      let has = subst (λ (s : ℕ). HasVersion file (s - 1) v ↔ IsKept old v) side (is.versions v) in
-      (λ there. to v (has.0 there), λ kept. has.1 (back v kept));
-  cells =
-      subst (λ (rs : List Record). (v i : ℕ) → IsVersion file (new.side - 1) v i
-      → SameWorld (2 ^ new.side) (version_has file new.side i)
-      (stored_in (2 ^ new.side) models rs v)) records
-      (subst (λ (s : ℕ). (v i : ℕ) → IsVersion file (s - 1) v i
-      → SameWorld (2 ^ s) (version_has file s i)
-      (stored_in (2 ^ s) models old.records v)) side is.cells);
-}

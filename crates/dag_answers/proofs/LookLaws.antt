@@ -8,15 +8,15 @@ use Rattle.history_model.specs.declared.questions.Question.{Question}
 use Rattle.script.specs.declared.faults.ScriptKind.{ScriptKind}
 use Rattle.script.specs.Placing.{question_placed}
 use Rattle.transcript.specs.declared.answers.Answer.{Answer}
-use Rattle.store_run.specs.TellsRoots.{TellsRoot}
+use Rattle.store_run.specs.AnswersByRoots.{AnswersByRoot}
 use Rattle.dag_file.specs.declared.faults.DagFault.{DagFault}
 use Rattle.dag_file.specs.declared.faults.DagFault.TheVariants as faults
 use Rattle.dag_file.specs.Rules.{IsDagFile}
 use Rattle.dag_file.specs.Places.{version_root_word, versions_in}
 use Rattle.dag_file.specs.Reads.{SaysFault}
-use Rattle.dag_file.specs.Trees.{Opened, opened_seen, word_name, version_tree, roots_below, HasVersion, IsRootOfVersion}
+use Rattle.dag_file.specs.Trees.{Opened, opened_state, word_name, version_tree, roots_below, HasVersion, IsRootOfVersion}
 use Rattle.dag_file.proofs.VersionLaws.{weighs_root, block_word}
-use Rattle.dag_answers.specs.Looks.{version_has, version_tints, TellsFileVersion, AnswersLook, LacksAsked, RefusesLook, of_dag}
+use Rattle.dag_answers.specs.Looks.{version_has, version_tints, AnswersFileVersion, AnswersLook, LacksAsked, RefusesLook, of_dag}
 
 pub fault_refuses : (bytes : List ℕ) (number : ℕ) (asked : Question) (fault : DagFault)
     → SaysFault bytes fault → RefusesLook bytes number asked (of_dag fault)
@@ -67,8 +67,8 @@ shows bytes side v root lt low is = record {
 pub version_told : (o : Opened) (number : ℕ) (root : Option Name) (question : Question)
     (answer : Answer) → 2 ≤ o.side → HasVersion o.bytes (o.side - 1) number
     → IsRootOfVersion o.bytes (o.side - 1) number root
-    → TellsRoot (opened_seen o).held o.side root question answer
-    → TellsFileVersion o.bytes o.side number question answer
+    → AnswersByRoot (opened_state o).held o.side root question answer
+    → AnswersFileVersion o.bytes o.side number question answer
 version_told o number root question answer low has is tells = record {
   v = has.0;
   is = has.1;
@@ -80,7 +80,7 @@ version_told o number root question answer low has is tells = record {
 
 pub looked : (bytes : List ℕ) (side number : ℕ) (asked question : Question) (answer : Answer)
     → 2 ≤ side → IsDagFile bytes (side - 1) → question_placed (2 ^ side) asked ≡ Ok question
-    → TellsFileVersion bytes side number question answer
+    → AnswersFileVersion bytes side number question answer
     → AnswersLook bytes number asked answer
 looked bytes side number asked question answer low file placed tells = record {
   side = side;

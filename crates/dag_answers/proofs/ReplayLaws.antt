@@ -1,7 +1,7 @@
 -- A legal history that is replayed with its marks.
 use Rattle.std.proofs.Common.{◌≡◌, ◌≢◌, ℕ, zero, suc, ◌+◌, ◌^◌, ◌<◌, ◌≤◌, List, [], ◌∷◌, ◌++◌, length, take, drop, get_or, length-append, length-drop, length-take-le, take_all, take-append-drop, sym, ap, subst, ◌∙◌, inl, inr, ◌⊎◌, arith}
 use Rattle.std.specs.Prelude.{All}
-use Rattle.std.specs.List.{Contains}
+use Rattle.std.specs.List.{AllPairs, Contains}
 use Rattle.std.proofs.lemmas.Bool.{cases_order}
 use Rattle.std.proofs.lemmas.List.{take_more, drop_more, get_or_default, get_or-take, get_or-drop}
 use Rattle.std.proofs.lemmas.List.Elements.{All-push, All-tail, All-contains, Contains-get_or, Contains-append_left, Contains-append_right, Contains-append_cases, Contains-push, Contains-push_cases}
@@ -13,15 +13,17 @@ use Rattle.history_model.specs.declared.histories.Mark.{Mark}
 use Rattle.history_model.specs.declared.histories.Record.{Record}
 use Rattle.history_model.specs.Logs.{Log, IsVersionHeld, HasTarget, MayFollow}
 use Rattle.history_model.specs.Positions.{Position, position_after}
-use Rattle.core_laws.specs.contents.Versions.{IsKept, IsUnmarked}
+use Rattle.core_laws.specs.contents.Versions.{HoldsVersion}
+use Rattle.core_laws.proofs.OfContents.MarkLaws.{marks_rise}
 use Rattle.store_run.specs.Changing.{LogGainsMark, log_with_record}
 use Rattle.store_run.specs.Marked.{AreLegalMarks, replayed}
 use Rattle.store_run.specs.declared.replaying.ReplayRefused.{ReplayRefused}
 use Rattle.store_run.specs.declared.replaying.ReplayRefused.TheVariants as replays
-use Rattle.store_run.specs.Replaying.{AreLegalRecords, MakesOnlyParts, MayFillReplay, RefusesRecord, replay_plan}
+use Rattle.store_run.specs.Replaying.{AreLegalRecords, MakesOnlyParts, MayFillReplay, RefusesRecord}
 use Rattle.store_run.specs.Worlds.{WorldState}
-use Rattle.dag_answers.specs.Histories.{RefusesHistory, of_replay}
+use Rattle.dag_answers.specs.Histories.{RefusesHistoryOver, of_replay}
 use Rattle.dag_answers.specs.Replays.{AreDue, HasReplayed}
+use Rattle.dag_answers.proofs.SortLaws.{same_rising}
 use Rattle.dag_answers.proofs.LegalLaws.{ComesNext, legal_front, legal_last}
 
 -- what stands where a list has no mark
@@ -51,11 +53,6 @@ module _ (some all : List Mark) (within : (m : Mark) → Contains some m → Con
   may_within n (Copy b c) at may = tt
   may_within n (Stamp b c) at may = tt
   may_within n (Tint t) at may = tt
-
-  unmarked_within : (v : ℕ) → IsUnmarked all v → IsUnmarked some v
-  unmarked_within v unmarked = λ k d lt.
-      All-contains (λ (m : Mark). m.version ≢ v) all (get_or some k d) unmarked
-      (within (get_or some k d) (Contains-get_or some k d lt))
 
 -- the next record of a legal history
 pub next_of : (side : ℕ) (models : List Content) (log : Log) (n : ℕ) (d : Record)
@@ -90,6 +87,8 @@ module _ (models : List Content) (log : Log) (due : List Mark) (of_due : AreDue 
     records = ap (λ (l : Log). l.records) is;
     many = ap (λ (l : Log). length l.records) is;
     there = omega arith;
+    rising = subst (λ (l : Log). AllPairs (λ a b. a.version < b.version) l.marks) (sym is)
+        (λ i j d lt within. absurd (omega (arith, within)));
     marks = λ m listed.
         absurd (omega (arith, (subst (λ (l : Log). Contains l.marks m) is listed).1));
     all = λ m listed. absurd (omega (arith, listed.1));
@@ -142,6 +141,8 @@ module _ (models : List Content) (log : Log) (due : List Mark) (of_due : AreDue 
             ∙ sym (take_more log.records n d lt);
         many = omega (arith, number, long, many);
         there = omega (arith, lt);
+        rising =
+            subst (λ (l : Log). AllPairs (λ a b. a.version < b.version) l.marks) (sym is) has.rising;
         marks = λ m listed. has.marks m (subst (λ (l : Log). Contains l.marks m) is listed);
         all = λ m listed. subst (λ (l : Log). Contains l.marks m) (sym is) (has.all m listed);
         past = λ i e below. (let le = has.past i e below in omega (arith, le));
@@ -150,39 +151,42 @@ module _ (models : List Content) (log : Log) (due : List Mark) (of_due : AreDue 
       }
 
   -- or finds a full bucket
-  pub refuses_next : (n k : ℕ) (now : WorldState) (d : Record) (why : ReplayRefused)
+  pub refuses_next : (p : Layout) (n k : ℕ) (now : WorldState) (d : Record) (why : ReplayRefused)
       → HasReplayed models log due n k now → n < length log.records
       → AreLegalRecords (2 ^ log.side) models log.marks log.records
-      → now.plan ≡ replay_plan log.side
+      → now.plan ≡ p
       → RefusesRecord (replayed now) (get_or log.records n d) why
-      → RefusesHistory models log (of_replay why)
-  refuses_next n k now d (replays.Full full) has lt legal plan fills =
+      → RefusesHistoryOver p models log (of_replay why)
+  refuses_next p n k now d (replays.Full full) has lt legal plan fills =
       let next : List Record = take (n + 1) log.records in
       let are : now.log.records ++ get_or log.records n d ∷ [] ≡ next =
       ap (λ (rs : List Record). rs ++ get_or log.records n d ∷ []) has.records
-      ∙ sym (take_more log.records n d lt) in (
+      ∙ sym (take_more log.records n d lt) in
+      let side : log.side ≡ p.side = sym has.side ∙ ap (λ (q : Layout). q.side) plan in (
         legal,
         record {
           first = next;
           rest = drop (n + 1) log.records;
           begins = sym (take-append-drop (n + 1) log.records);
-          legal = legal_front (2 ^ log.side) models log.marks next (drop (n + 1) log.records)
+          legal =
+              subst (λ (s : ℕ). AreLegalRecords (2 ^ s) models log.marks next) side
+              (legal_front (2 ^ log.side) models log.marks next (drop (n + 1) log.records)
               (subst (λ (rs : List Record). AreLegalRecords (2 ^ log.side) models log.marks rs)
-              (sym (take-append-drop (n + 1) log.records)) legal);
+              (sym (take-append-drop (n + 1) log.records)) legal));
           fills =
-              subst (λ (p : Layout). MayFillReplay p models next full) plan
+              subst (λ (q : Layout). MayFillReplay q models next full) plan
               (subst (λ (ms : List Content). MayFillReplay now.plan ms next full) has.models_are
               (subst (λ (rs : List Record). MayFillReplay now.plan now.models rs full) are fills.1));
         },
       )
-  refuses_next n k now d replays.Memory has lt legal plan fills = tt
+  refuses_next p n k now d replays.Memory has lt legal plan fills = tt
 
   -- ---- a mark that is due
 
   -- its version is kept
   pub due_kept : (n k : ℕ) (now : WorldState) (d : Mark) → HasReplayed models log due n k now
       → AreLegalMarks (length log.records) log.marks → k < length due → (get_or due k d).at ≡ n
-      → IsKept now.log (get_or due k d).version
+      → HoldsVersion now.log (get_or due k d).version
   due_kept n k now d has legal lt at = record {
     there = (
         let m = get_or due k d in
@@ -234,6 +238,7 @@ module _ (models : List Content) (log : Log) (due : List Mark) (of_due : AreDue 
         records = marks.records ∙ has.records;
         many = ap (λ (rs : List Record). length rs) marks.records ∙ has.many;
         there = has.there;
+        rising = marks_rise now.log.marks new.log.marks m marks.marks has.rising;
         marks = λ x listed.
             subst (λ (ms : List Mark). Contains ms x) (sym more)
             (among x (comes x (subst (λ (ms : List Mark). Contains ms x) marks.marks.is listed)));
@@ -364,23 +369,34 @@ module _ (models : List Content) (log : Log) (due : List Mark) (of_due : AreDue 
     pub all_records : now.log.records ≡ log.records
     all_records = has.records ∙ take_all (length log.records) log.records (omega arith)
 
-    -- the same versions are kept
-    pub kept_to : (v : ℕ) → IsKept now.log v → IsKept log v
-    kept_to v kept = record {
-      there = subst (λ (rs : List Record). v ≤ length rs) all_records kept.there;
-      unmarked = unmarked_within log.marks now.log.marks
-          (λ m listed. has.all m
-          (subst (λ (ms : List Mark). Contains ms m) (sym (take_all k due all_due))
-          (of_due.all m listed)))
-          v kept.unmarked;
+    -- the marks are those of the history
+    marks_there : (m : Mark) → Contains now.log.marks m → Contains log.marks m
+    marks_there m listed = marks_within (length log.records) k now has m listed
+
+    marks_back : (m : Mark) → Contains log.marks m → Contains now.log.marks m
+    marks_back m listed =
+        has.all m
+        (subst (λ (ms : List Mark). Contains ms m) (sym (take_all k due all_due)) (of_due.all m listed))
+
+    all_marks : now.log.marks ≡ log.marks
+    all_marks = same_rising now.log.marks log.marks has.rising legal.rising marks_there marks_back
+
+    pub all_log : now.log ≡ log
+    all_log = λ i. record {
+      side = has.log_side i;
+      coloured = has.coloured i;
+      records = all_records i;
+      marks = all_marks i;
     }
 
-    pub kept_back : (v : ℕ) → IsKept log v → IsKept now.log v
-    kept_back v kept = record {
-      there = subst (λ (rs : List Record). v ≤ length rs) (sym all_records) kept.there;
-      unmarked = unmarked_within now.log.marks log.marks
-          (marks_within (length log.records) k now has) v kept.unmarked;
-    }
+-- so it is where the marks that are due are all behind it
+pub replayed_log : (models : List Content) (log : Log) (due : List Mark)
+    → AreDue log.marks due → (now : WorldState)
+    → HasReplayed models log due (length log.records) (length due) now
+    → AreLegalMarks (length log.records) log.marks → now.log ≡ log
+replayed_log models log due of_due now has legal =
+    all_log models log due of_due (length due) now has legal
+    (none_due models log due of_due (length log.records) (length due) (omega arith))
 
 -- before the first record nothing is due
 pub begun_later : (log : Log) (due : List Mark) → AreDue log.marks due

@@ -1,6 +1,6 @@
 -- Marks that are sorted by their moments are still of different versions.
-use Rattle.std.proofs.Common.{◌≡◌, ◌≢◌, ℕ, zero, suc, ◌+◌, ◌-◌, ◌<◌, ◌≤◌, List, [], ◌∷◌, length, get_or, refl, inl, inr, ◌⊎◌, arith}
-use Rattle.std.specs.List.{AllPairs, sum_by}
+use Rattle.std.proofs.Common.{◌≡◌, ◌≢◌, ℕ, zero, suc, ◌+◌, ◌-◌, ◌<◌, ◌≤◌, List, [], ◌∷◌, length, get_or, refl, sym, ap, subst, inl, inr, ◌⊎◌, arith}
+use Rattle.std.specs.List.{AllPairs, Contains, sum_by}
 use Rattle.std.specs.List.Sorted.{IsNonDecreasingBy}
 use Rattle.std.specs.Prelude.{IsPermutation}
 use Rattle.std.proofs.lemmas.Bool.{cases_order}
@@ -11,6 +11,10 @@ use Rattle.dag_answers.specs.Replays.{AreDue}
 
 abbrev Rise : List Mark → Type 0
 Rise marks = AllPairs (λ (a b : Mark). a.version < b.version) marks
+
+rise_below : (m : Mark) (ms : List Mark) → Rise (m ∷ ms) → Rise ms
+rise_below m ms rise = λ i j d lt within.
+    rise (suc i) (suc j) d (omega (arith, lt)) (omega (arith, within))
 
 -- ---- how many marks are of a version
 
@@ -48,10 +52,6 @@ module _ (v : ℕ) where
       let first = over 0 m (omega arith) in
       let all = sum_by-cons is_of m ms in
       omega (arith, all, rest, first)
-
-  rise_below : (m : Mark) (ms : List Mark) → Rise (m ∷ ms) → Rise ms
-  rise_below m ms rise = λ i j d lt within. rise (suc i) (suc j) d (omega (arith, lt))
-      (omega (arith, within))
 
   few_more : (m : Mark) (ms : List Mark) → Rise (m ∷ ms) → sum_by is_of ms ≤ 1
       → sum_by is_of (m ∷ ms) ≤ 1
@@ -94,3 +94,65 @@ sorted_due marks due rise moved sorted = record {
   all = λ m has. Contains-permutation marks due m moved has;
   once = once marks due rise moved;
 }
+
+-- ---- two lists of rising versions with the same marks are one
+
+first_below : (m : Mark) (ms : List Mark) → Rise (m ∷ ms) → (x : Mark) → Contains ms x
+    → m.version < x.version
+first_below m ms rise x (i, lt, is) =
+    subst (λ (y : Mark). m.version < y.version) is
+    (rise 0 (suc i) x (omega arith) (omega (arith, lt)))
+
+in_front : (x y : Mark) (ys : List Mark) → Contains (y ∷ ys) x → (y ≡ x) ⊎ Contains ys x
+in_front x y ys (zero, lt, is) = inl is
+in_front x y ys (suc i, lt, is) = inr (i, omega (arith, lt), is)
+
+behind : (x y : Mark) (ys : List Mark) → Contains ys x → Contains (y ∷ ys) x
+behind x y ys (i, lt, is) = (suc i, omega (arith, lt), is)
+
+at_first : (x : Mark) (xs : List Mark) → Contains (x ∷ xs) x
+at_first x xs = (0, omega arith, refl)
+
+same_first : (x y : Mark) (xs ys : List Mark) → Rise (x ∷ xs) → Rise (y ∷ ys)
+    → Contains (y ∷ ys) x → Contains (x ∷ xs) y → x ≡ y
+same_first x y xs ys of_x of_y in_y in_x = go (in_front x y ys in_y) (in_front y x xs in_x)
+  where
+    go : (y ≡ x) ⊎ Contains ys x → (x ≡ y) ⊎ Contains xs y → x ≡ y
+    go (inl same) either = sym same
+    go (inr there) (inl same) = same
+    go (inr there) (inr here) =
+        let up = first_below y ys of_y x there in
+        let down = first_below x xs of_x y here in
+        absurd (omega (arith, up, down))
+
+same_rest : (x : Mark) (xs ys : List Mark) → Rise (x ∷ xs)
+    → ((m : Mark) → Contains (x ∷ xs) m → Contains (x ∷ ys) m)
+    → (m : Mark) → Contains xs m → Contains ys m
+same_rest x xs ys of_x to m there = go (in_front m x ys (to m (behind m x xs there)))
+  where
+    go : (x ≡ m) ⊎ Contains ys m → Contains ys m
+    go (inr here) = here
+    go (inl same) =
+        let up = first_below x xs of_x m there in
+        let at = ap (λ (k : Mark). k.version) same in
+        absurd (omega (arith, up, at))
+
+pub same_rising : (xs ys : List Mark) → Rise xs → Rise ys
+    → ((m : Mark) → Contains xs m → Contains ys m)
+    → ((m : Mark) → Contains ys m → Contains xs m) → xs ≡ ys
+same_rising [] [] of_x of_y to back = refl
+same_rising [] (y ∷ ys) of_x of_y to back =
+    absurd (let listed = back y (at_first y ys) in let lt = listed.1 in omega (arith, lt))
+same_rising (x ∷ xs) [] of_x of_y to back =
+    absurd (let listed = to x (at_first x xs) in let lt = listed.1 in omega (arith, lt))
+same_rising (x ∷ xs) (y ∷ ys) of_x of_y to back =
+    let first : x ≡ y =
+    same_first x y xs ys of_x of_y (to x (at_first x xs)) (back y (at_first y ys)) in
+    let of_first : Rise (x ∷ ys) = subst (λ (z : Mark). Rise (z ∷ ys)) (sym first) of_y in
+    subst (λ (z : Mark). x ∷ xs ≡ z ∷ ys) first
+    (ap (λ (zs : List Mark). x ∷ zs)
+    (same_rising xs ys (rise_below x xs of_x) (rise_below y ys of_y)
+    (same_rest x xs ys of_x
+    (λ m listed. subst (λ (z : Mark). Contains (z ∷ ys) m) (sym first) (to m listed)))
+    (same_rest x ys xs of_first
+    (λ m listed. back m (subst (λ (z : Mark). Contains (z ∷ ys) m) first listed)))))

@@ -7,7 +7,7 @@ use Rattle.history_model.specs.Tints.{Tints}
 use Rattle.history_model.specs.declared.questions.Question.{Question}
 use Rattle.transcript.specs.declared.answers.Answer.{Answer}
 use Rattle.script.specs.Placing.{question_placed}
-use Rattle.store_run.specs.Telling.{Tells}
+use Rattle.store_run.specs.QuestionAnswers.{AnswersTo}
 use Rattle.dag_file.specs.declared.faults.DagFault.{DagFault}
 use Rattle.dag_file.specs.declared.faults.DagFault.TheVariants as faults
 use Rattle.dag_file.specs.Rules.{IsDagFile, FirstFault}
@@ -25,11 +25,11 @@ abbrev pub version_tints : List ℕ → ℕ → ℕ → Tints
 version_tints bytes side v c = one_if (version_has bytes side v c)
 
 -- the file has a version of this number, and the answer tells what the question asks of its cells
-pub record TellsFileVersion (bytes : List ℕ) (side number : ℕ) (question : Question)
+pub record AnswersFileVersion (bytes : List ℕ) (side number : ℕ) (question : Question)
     (answer : Answer) : Type 0 where
   pub v : ℕ
   pub is : IsVersion bytes (side - 1) number v
-  pub tells : Tells (2 ^ side) (version_has bytes side v) (version_tints bytes side v) question
+  pub tells : AnswersTo (2 ^ side) (version_has bytes side v) (version_tints bytes side v) question
       answer
 
 -- the file keeps all rules, what is asked lies in its worlds, and is answered of the version
@@ -40,7 +40,7 @@ pub record AnswersLook (bytes : List ℕ) (number : ℕ) (asked : Question) (ans
   pub file : IsDagFile bytes (side - 1)
   pub question : Question
   pub placed : question_placed (2 ^ side) asked ≡ Ok question
-  pub tells : TellsFileVersion bytes side number question answer
+  pub tells : AnswersFileVersion bytes side number question answer
 
 -- the file keeps all rules, and hasn't the version, or its worlds have not what is asked
 pub record LacksAsked (bytes : List ℕ) (number : ℕ) (asked : Question) : Type 0 where

@@ -1,5 +1,5 @@
 -- How a legal history is replayed with its marks, in the order of their moments.
-use Rattle.std.specs.Prelude.{◌≡◌, ◌≢◌, ℕ, ◌≤◌, List, take, drop, length, All}
+use Rattle.std.specs.Prelude.{◌≡◌, ◌≢◌, ℕ, ◌<◌, ◌≤◌, List, take, drop, length, All}
 use Rattle.std.specs.List.{AllPairs, Contains}
 use Rattle.vox_read.specs.Contents.{Content}
 use Rattle.history_model.specs.declared.histories.Mark.{Mark}
@@ -26,6 +26,7 @@ pub record HasReplayed (models : List Content) (log : Log) (due : List Mark) (n 
   pub records : now.log.records ≡ take n log.records
   pub many : length now.log.records ≡ n
   pub there : n ≤ length log.records
+  pub rising : AllPairs (λ a b. a.version < b.version) now.log.marks
   pub marks : (m : Mark) → Contains now.log.marks m → Contains (take k due) m
   pub all : (m : Mark) → Contains (take k due) m → Contains now.log.marks m
   pub past : All (λ m. m.at ≤ n) (take k due)

@@ -1,9 +1,9 @@
 ghost use Rattle.std.specs.Prelude.{◌≡◌, ◌-◌, ◌^◌, IfOk, IfErr, MatchOption, option_copied};
 ghost use Rattle.node_words.specs.descent.Roots.{HoldsRoot};
 ghost use Rattle.dag_file.specs.Rules.{IsDagFile};
-ghost use Rattle.dag_file.specs.Trees.{HasVersion, IsRootOfVersion, opened_seen};
+ghost use Rattle.dag_file.specs.Trees.{HasVersion, IsRootOfVersion, opened_state};
 ghost use Rattle.script.specs.Fitting.{QuestionFits};
-ghost use Rattle.dag_answers.specs.Looks.{TellsFileVersion, AnswersLook, RefusesLook};
+ghost use Rattle.dag_answers.specs.Looks.{AnswersFileVersion, AnswersLook, RefusesLook};
 ghost use Rattle.dag_answers.specs.Questions.{question_spelled};
 
 use crate::placing::place_question;
@@ -74,7 +74,7 @@ fn ask_version(view: &mut DagView<'_>, version: u32, question: Question) -> Opti
     ensures same { view.new ≡ view.old }
     ensures tells { MatchOption result
         (HasVersion view.old.bytes (view.old.side - 1) version → ⊥)
-        (TellsFileVersion view.old.bytes view.old.side version question) }
+        (AnswersFileVersion view.old.bytes view.old.side version question) }
 {
     let side = view.side();
     let root = view.root(version)?;

@@ -1,5 +1,5 @@
-//! The questions of scripts, asked of one version of a file of many versions, and the file of the
-//! versions of a history.
+//! The questions of scripts, asked of one version of a file of many versions, the file of the
+//! versions of a history, and the world that stands behind one.
 //!
 //! It takes bytes and spelled questions, and touches no shelf. To make a file it takes memory for
 //! a store in which the history is replayed. What a look answers is said in `specs/Looks.antt`,
@@ -17,5 +17,5 @@ mod questions;
 pub use asking::{LookRefused, look};
 pub use laws::looks_are_judged;
 pub use legality::first_illegal;
-pub use making::{HistoryRefused, file_of_history};
+pub use making::{HistoryRefused, file_of_history, world_of_history};
 pub use questions::{SpelledQuestion, SpelledStep, SpelledWay};

@@ -1,13 +1,13 @@
 //! The file of the versions of a history.
-ghost use Rattle.std.specs.Prelude.{◌≡◌, ◌+◌, ◌^◌, ◌-◌, ◌<◌, ◌≤◌, [], All, IfOk, IfErr, OnOk, drop, length};
+ghost use Rattle.std.specs.Prelude.{◌≡◌, ◌+◌, ◌^◌, ◌-◌, ◌<◌, ◌≤◌, [], false, All, IfOk, IfErr, OnOk, drop, length};
 ghost use Rattle.std.specs.List.{AllPairs};
 ghost use Rattle.vox_read.specs.Contents.{AreModels};
 ghost use Rattle.history_model.specs.Logs.{SuitsTints};
 ghost use Rattle.store_run.specs.Kept.{IsLargeStore};
-ghost use Rattle.store_run.specs.Known.{known_seen};
-ghost use Rattle.store_run.specs.Marked.{AreLegalMarks, HoldsKept};
+ghost use Rattle.store_run.specs.Known.{known_state};
+ghost use Rattle.store_run.specs.Marked.{AreLegalMarks, HoldsVersions};
 ghost use Rattle.store_run.specs.Replaying.{AreLegalRecords, replay_plan};
-ghost use Rattle.dag_answers.specs.Histories.{IsFileOfHistory, RefusesHistory, of_replay};
+ghost use Rattle.dag_answers.specs.Histories.{IsFileOfHistory, RefusesHistory, RefusesHistoryOver, of_replay};
 ghost use Rattle.dag_file.specs.Lists.{HoldsList, DoNumbersRise, AreNumbersSmall, IsFileOfList};
 ghost use Rattle.dag_answers.specs.Replays.{AreDue, HasReplayed};
 
@@ -18,7 +18,7 @@ use node_words::{Full, NodeStore, Plan};
 use std::alloc::Global;
 use std::marker::Brand;
 use std::sync::ledger::{Blank, Ledger};
-use store_run::{HeldRoots, MarkedReplay, ReplayRefused};
+use store_run::{HeldRoots, MarkedReplay, OpenWorld, ReplayRefused};
 use vox_read::Models;
 use vw_cell::{Memory, Side};
 
@@ -86,8 +86,61 @@ pub fn file_of_history(
     file_over::<Brand>(alloc, history, models, &plan, Blank::new(1))
 }
 
-// The same over a plan of the history's side, whose records keep the rules.
-#[tactic(auto, using(crate::proofs::ReplayLaws::has_begun))]
+/// The world that stands behind a history, over a plan of its side: with its versions, its marks,
+/// and what can be undone and redone, as when the last of its commands was done. The history is
+/// replayed once, and each version is given back at its mark.
+pub fn world_of_history(
+    alloc: Global,
+    history: &History,
+    models: Models,
+    plan: &Plan,
+) -> Result<OpenWorld, HistoryRefused>
+    requires models { AreModels models }
+    requires suits { SuitsTints history.now }
+    requires plain { history.now.coloured ≡ false }
+    requires marks { AreLegalMarks (length history.now.records) history.now.marks }
+    requires side { plan.now.side ≡ history.now.side }
+    ensures plan { IfOk result (λ w. w.plan ≡ plan.now) }
+    ensures models { IfOk result (λ w. w.models ≡ models) }
+    ensures log { IfOk result (λ w. w.log ≡ history.now) }
+    ensures refused { IfErr result (RefusesHistoryOver plan.now models history.now) }
+    ensures legal { IfOk result
+        (λ _. AreLegalRecords (2 ^ history.now.side) models history.now.marks history.now.records) }
+{
+    if let Some(number) = first_illegal(alloc, history, &models)? {
+        return Err(HistoryRefused::Illegal(number));
+    }
+    world_over::<Brand>(alloc, history, models, plan, Blank::new(1))
+}
+
+// The same of a history whose records keep the rules.
+fn world_over<L: Ledger>(
+    alloc: Global,
+    history: &History,
+    models: Models,
+    plan: &Plan,
+    blank: Blank,
+) -> Result<OpenWorld, HistoryRefused>
+    requires models { AreModels models }
+    requires suits { SuitsTints history.now }
+    requires plain { history.now.coloured ≡ false }
+    requires marks { AreLegalMarks (length history.now.records) history.now.marks }
+    requires side { plan.now.side ≡ history.now.side }
+    requires records { AreLegalRecords (2 ^ history.now.side) models history.now.marks
+        history.now.records }
+    requires name { blank.name ≡ L.name }
+    requires parts { blank.parts ≡ L.parts }
+    requires some { 0 < L.parts }
+    ensures plan { IfOk result (λ w. w.plan ≡ plan.now) }
+    ensures models { IfOk result (λ w. w.models ≡ models) }
+    ensures log { IfOk result (λ w. w.log ≡ history.now) }
+    ensures refused { IfErr result (RefusesHistoryOver plan.now models history.now) }
+{
+    let replay: MarkedReplay<L> = replay_history(alloc, history, models, plan, blank)?;
+    Ok(replay.into_world())
+}
+
+// The file of a history whose records keep the rules, over a plan of its side.
 fn file_over<L: Ledger>(
     alloc: Global,
     history: &History,
@@ -108,6 +161,36 @@ fn file_over<L: Ledger>(
     ensures file { IfOk result (λ file. IsFileOfHistory models history.now file.items) }
     ensures refused { IfErr result (RefusesHistory models history.now) }
 {
+    let replay: MarkedReplay<L> = replay_history(alloc, history, models, plan, blank)?;
+    let held = replay.into_roots(alloc)?;
+    let file = file_of_roots(alloc, history.side, held)?;
+    Ok(file)
+}
+
+// A history whose records keep the rules, replayed over a plan of its side.
+#[tactic(auto, using(crate::proofs::ReplayLaws::has_begun))]
+fn replay_history<L: Ledger>(
+    alloc: Global,
+    history: &History,
+    models: Models,
+    plan: &Plan,
+    blank: Blank,
+) -> Result<MarkedReplay<L>, HistoryRefused>
+    requires models { AreModels models }
+    requires suits { SuitsTints history.now }
+    requires large { IsLargeStore history.now.coloured history.now.side }
+    requires marks { AreLegalMarks (length history.now.records) history.now.marks }
+    requires side { plan.now.side ≡ history.now.side }
+    requires records { AreLegalRecords (2 ^ history.now.side) models history.now.marks
+        history.now.records }
+    requires name { blank.name ≡ L.name }
+    requires parts { blank.parts ≡ L.parts }
+    requires some { 0 < L.parts }
+    ensures plan { IfOk result (λ r. r.plan ≡ plan.now) }
+    ensures models { IfOk result (λ r. r.models ≡ models) }
+    ensures log { IfOk result (λ r. r.log ≡ history.now) }
+    ensures refused { IfErr result (RefusesHistoryOver plan.now models history.now) }
+{
     let due = marks_due(alloc, history.marks.as_slice())?;
     let records = history.records.len();
     let tint = history.coloured;
@@ -115,9 +198,7 @@ fn file_over<L: Ledger>(
         alloc, plan, models, tint, records, blank,
     )?;
     replay_all(&mut replay, history, due.as_slice())?;
-    let held = replay.into_roots(alloc)?;
-    let file = file_of_roots(alloc, history.side, held)?;
-    Ok(file)
+    Ok(replay)
 }
 
 // The marks by their moments.
@@ -143,13 +224,13 @@ fn replay_all<L: Ledger>(
     requires due { AreDue history.now.marks due.now }
     requires records { AreLegalRecords (2 ^ history.now.side) replay.old.models history.now.marks
         history.now.records }
-    requires plan { replay.old.plan ≡ replay_plan history.now.side }
     requires begun { HasReplayed replay.old.models history.now due.now 0 0 replay.old }
     ensures plan { replay.new.plan ≡ replay.old.plan }
     ensures all { OnOk result (HasReplayed replay.old.models history.now due.now
         (length history.now.records) (length due.now) replay.new) }
     ensures refused { IfErr result
-        (λ why. RefusesHistory replay.old.models history.now (of_replay why)) }
+        (λ why. RefusesHistoryOver replay.old.plan replay.old.models history.now
+        (of_replay why)) }
 {
     let mut next = 0;
     for record in &history.records {
@@ -193,12 +274,12 @@ fn forget_due<L: Ledger>(
 
 // The file of these versions.
 fn file_of_roots(alloc: Global, side: Side, held: HeldRoots) -> Result<Vec<u8>, Memory>
-    requires roots { HoldsList (known_seen held.store).held (side - 1) held.roots.items }
+    requires roots { HoldsList (known_state held.store).held (side - 1) held.roots.items }
     requires rise { DoNumbersRise held.roots.items }
     requires small { AreNumbersSmall held.roots.items }
     requires side { held.store.words.plan.side ≡ side }
     ensures file { IfOk result
-        (λ file. IsFileOfList (known_seen held.store).held (side - 1) held.roots.items
+        (λ file. IsFileOfList (known_state held.store).held (side - 1) held.roots.items
         file.items) }
 {
     let mut held = held;
@@ -209,12 +290,12 @@ fn file_of_roots(alloc: Global, side: Side, held: HeldRoots) -> Result<Vec<u8>, 
 
 #[tactic(auto, using(dag_file::proofs::CanonicalLaws::show_canonical))]
 fn written(alloc: Global, side: Side, held: &mut HeldRoots) -> Result<Vec<u8>, Memory>
-    requires roots { HoldsList (known_seen held.old.store).held (side - 1) held.old.roots.items }
+    requires roots { HoldsList (known_state held.old.store).held (side - 1) held.old.roots.items }
     requires rise { DoNumbersRise held.old.roots.items }
     requires small { AreNumbersSmall held.old.roots.items }
     requires side { held.old.store.words.plan.side ≡ side }
     ensures file { IfOk result
-        (λ file. IsFileOfList (known_seen held.old.store).held (side - 1) held.old.roots.items
+        (λ file. IsFileOfList (known_state held.old.store).held (side - 1) held.old.roots.items
         file.items) }
 {
     let mut file = Vec::new(alloc);

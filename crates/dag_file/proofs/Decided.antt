@@ -7,7 +7,7 @@ use Rattle.vw_cell.specs.Sides.{is_side}
 use Rattle.dag_file.specs.Places.{number_at, leaf_at, node_word_at, side_in, versions_in, count_place, count_in, entry_place, version_place, version_number, version_root_word, versions_end}
 use Rattle.dag_file.specs.Trees.{HasVersion}
 use Rattle.dag_file.proofs.ReadLaws.{ends_within}
-use Rattle.dag_file.specs.Rules.{IsMarked, HasOne, HasSide, HasVersions, HasCount, IsLeafRight, ComesBefore, HasWord, IsNodeRight, IsEntryRight, IsNumberRight, IsRootRight, IsHeaderRight, AreCountsRight, AreEntriesRight, AreLevelsRight, AreVersionsRight, IsNamedAbove, IsRooted, IsNamed, AreEntriesNamed, AreLevelsNamed, HasLevels, IsRight, IsDagFile, FirstFault, no_mark, no_one, no_side, no_versions, no_count, no_entry, no_number, no_root, unnamed, trailing}
+use Rattle.dag_file.specs.Rules.{IsMarked, HasOne, HasSide, HasVersions, HasCount, IsLeafRight, SortsBefore, HasWord, IsNodeRight, IsEntryRight, IsNumberRight, IsRootRight, IsHeaderRight, AreCountsRight, AreEntriesRight, AreLevelsRight, AreVersionsRight, IsNamedAbove, IsRooted, IsNamed, AreEntriesNamed, AreLevelsNamed, HasLevels, IsRight, IsDagFile, FirstFault, no_mark, no_one, no_side, no_versions, no_count, no_entry, no_number, no_root, unnamed, trailing}
 
 -- ---- what can be decided
 
@@ -145,7 +145,7 @@ module _ (bytes : List ℕ) where
       (both (other (cases_eq (leaf_at bytes place) 0))
       (follows (is_less 0 i) (is_less (leaf_at bytes (place - 8)) (leaf_at bytes place)))))
 
-  before_decided : (a b : ℕ) → Decided (ComesBefore bytes a b)
+  before_decided : (a b : ℕ) → Decided (SortsBefore bytes a b)
   before_decided a b =
       by (λ s. record { k = s.i; below = s.below; same = s.is.0; less = s.is.1 })
       (λ r. record { i = r.k; below = r.below; is = (r.same, r.less) })

@@ -9,7 +9,7 @@ use Rattle.dag_file.specs.Rules.{IsMarked}
 use Rattle.dag_file.specs.Writes.{word_bytes, leaf_bytes, numbers_bytes, header_bytes, file_bytes}
 use Rattle.dag_file.specs.Layers.{first_node}
 use Rattle.dag_file.proofs.ReadLaws.{start-zero, start-suc}
-use Rattle.dag_file.proofs.RunLaws.{StandsAt, first_part, second_part, further, number_there, leaf_there, item_there, items_length}
+use Rattle.dag_file.proofs.RunLaws.{HasPieceAt, first_part, second_part, further, number_there, leaf_there, item_there, items_length}
 
 number_length : (n : ℕ) → length (word_bytes n) ≡ 4
 number_length n = refl
@@ -113,32 +113,32 @@ module _ (side top : ℕ) (counts leaves : List ℕ) (nodes pairs : List (List �
 
   -- ---- where the parts stand
 
-  in_file : (p : ℕ) (piece : List ℕ) → StandsAt (H ++ (L ++ (N ++ V))) p piece
-      → StandsAt file p piece
-  in_file p piece x = subst (λ (w : List ℕ). StandsAt w p piece) (sym parts) x
+  in_file : (p : ℕ) (piece : List ℕ) → HasPieceAt (H ++ (L ++ (N ++ V))) p piece
+      → HasPieceAt file p piece
+  in_file p piece x = subst (λ (w : List ℕ). HasPieceAt w p piece) (sym parts) x
 
-  fields_there : StandsAt file 4 (numbers_bytes fields)
+  fields_there : HasPieceAt file 4 (numbers_bytes fields)
   fields_there = in_file 4 (numbers_bytes fields) (further (H ++ (L ++ (N ++ V))) H (numbers_bytes fields) 0 4 4 (first_part H (L ++ (N ++ V))) (second_part (codes "VDAG") (numbers_bytes fields) 4 refl) refl)
 
-  rest_there : StandsAt (H ++ (L ++ (N ++ V))) (16 + 4 * suc top) (L ++ (N ++ V))
+  rest_there : HasPieceAt (H ++ (L ++ (N ++ V))) (16 + 4 * suc top) (L ++ (N ++ V))
   rest_there = second_part H (L ++ (N ++ V)) (16 + 4 * suc top) header_length
 
-  leaves_there : StandsAt file (16 + 4 * suc top) L
+  leaves_there : HasPieceAt file (16 + 4 * suc top) L
   leaves_there = in_file (16 + 4 * suc top) L
       (further (H ++ (L ++ (N ++ V))) (L ++ (N ++ V)) L (16 + 4 * suc top) 0
       (16 + 4 * suc top) rest_there (first_part L (N ++ V)) (omega arith))
 
-  behind_leaves : StandsAt (H ++ (L ++ (N ++ V))) (16 + 4 * suc top + 8 * length leaves) (N ++ V)
+  behind_leaves : HasPieceAt (H ++ (L ++ (N ++ V))) (16 + 4 * suc top + 8 * length leaves) (N ++ V)
   behind_leaves = further (H ++ (L ++ (N ++ V))) (L ++ (N ++ V)) (N ++ V) (16 + 4 * suc top)
       (8 * length leaves) (16 + 4 * suc top + 8 * length leaves) rest_there
       (second_part L (N ++ V) (8 * length leaves) leaves_length) refl
 
-  nodes_there : StandsAt file (16 + 4 * suc top + 8 * length leaves) N
+  nodes_there : HasPieceAt file (16 + 4 * suc top + 8 * length leaves) N
   nodes_there = in_file (16 + 4 * suc top + 8 * length leaves) N
       (further (H ++ (L ++ (N ++ V))) (N ++ V) N (16 + 4 * suc top + 8 * length leaves) 0
       (16 + 4 * suc top + 8 * length leaves) behind_leaves (first_part N V) (omega arith))
 
-  pairs_there : StandsAt file (16 + 4 * suc top + 8 * length leaves + 32 * length nodes) V
+  pairs_there : HasPieceAt file (16 + 4 * suc top + 8 * length leaves + 32 * length nodes) V
   pairs_there = in_file (16 + 4 * suc top + 8 * length leaves + 32 * length nodes) V
       (further (H ++ (L ++ (N ++ V))) (N ++ V) V (16 + 4 * suc top + 8 * length leaves)
       (32 * length nodes)

@@ -7,7 +7,7 @@ use Rattle.std.specs.Ordering.{nat_cmp}
 use Rattle.std.proofs.lemmas.List.Sorted.{searched}
 use Rattle.std.proofs.lemmas.List.{get_or-set_same, get_or-set_other, get_or_default}
 use Rattle.std.proofs.lemmas.Bool.{cases_lt}
-use Rattle.node_words.specs.Held.{Seen}
+use Rattle.node_words.specs.Held.{StoreState}
 use Rattle.node_words.specs.descent.Roots.{IsOctantOf}
 use Rattle.node_words.specs.declared.shapes.names.Name.{Name}
 use Rattle.dag_file.specs.Trees.{named_index}
@@ -100,7 +100,7 @@ never_missed xs x i up h (j, lt, is) =
     search_missed xs x i j up h lt (get_or_default xs j 0 x lt ∙ is)
 
 -- the word of one octant more
-pub words_step : (a b : Seen) (level : ℕ) (node : Name) (keys indices : List ℕ) (k i : ℕ)
+pub words_step : (a b : StoreState) (level : ℕ) (node : Name) (keys indices : List ℕ) (k i : ℕ)
     (child : Option Name) (word : ℕ) (words : List ℕ) → b ≡ a
     → AreOctantWords a.held level node keys indices k words
     → IsOctantOf b.held level (Some node) k child → HasByteSlot child
@@ -117,7 +117,7 @@ words_step a b level node keys indices k i child word words same ws oct slot is 
       here = record {
         child = child;
         octant = subst
-            (λ (s : Seen). IsOctantOf s.held level
+            (λ (s : StoreState). IsOctantOf s.held level
             (Some node) k child) same oct;
         slot = slot;
         word_is = is;

@@ -8,7 +8,7 @@ use Rattle.std.proofs.lemmas.List.Elements.{Contains-get_or, Contains-append_lef
 use Rattle.std.proofs.lemmas.List.{append-nil}
 use Rattle.std.proofs.lemmas.Option.{none-some}
 use Rattle.node_words.specs.declared.shapes.names.Name.{Name}
-use Rattle.node_words.specs.Held.{Seen}
+use Rattle.node_words.specs.Held.{StoreState}
 use Rattle.node_words.specs.shapes.Tree.{Tree, root_of, child_of}
 use Rattle.node_words.specs.descent.Roots.{IsBlockOf, HasBlock, IsOctantOf}
 use Rattle.node_words.proofs.OfDescent.BlockLaws.{root_block}
@@ -159,15 +159,15 @@ octant_pushed held level node (Some c) n old mid new block a some slot e =
     octant_some held level node c n old mid new block a some slot e
 
 -- the same where the store was seen as before
-pub octant_step : (a b : Seen) (level : ℕ) (node : Name) (c : Option Name) (n : ℕ)
+pub octant_step : (a b : StoreState) (level : ℕ) (node : Name) (c : Option Name) (n : ℕ)
     (old mid new : List ℕ) → b ≡ a → HasBlock b.held level (Some node)
     → AddsKeys (IsChildKey a.held level node n) old mid → IsOctantOf b.held level (Some node) n c
     → HasByteSlot c → new ≡ mid ++ keys_of c
     → AddsKeys (IsChildKey a.held level node (n + 1)) old new
 octant_step a b level node c n old mid new same block ad some slot e =
     octant_pushed a.held level node c n old mid new
-    (subst (λ (s : Seen). HasBlock s.held level (Some node)) same block) ad
-    (subst (λ (s : Seen). IsOctantOf s.held level (Some node) n c) same some) slot e
+    (subst (λ (s : StoreState). HasBlock s.held level (Some node)) same block) ad
+    (subst (λ (s : StoreState). IsOctantOf s.held level (Some node) n c) same some) slot e
 
 -- ---- the nodes of a list
 
@@ -191,7 +191,7 @@ one_node_more held level keys n old mid new a b = adds_more _ _ _ old mid new a 
       at_end : (j : ℕ) → n ≤ j → j < n + 1 → j ≡ n
       at_end j l m = omega (arith, l, m)
 
-pub node_step : (a b : Seen) (level : ℕ) (keys : List ℕ) (n : ℕ) (node : Name)
+pub node_step : (a b : StoreState) (level : ℕ) (keys : List ℕ) (n : ℕ) (node : Name)
     (old mid new : List ℕ) → b ≡ a → AddsKeys (IsChildOf a.held level keys n) old mid
     → node ≡ entry_name level (slice_index keys n)
     → AddsKeys (IsChildKey b.held level node 8) mid new
@@ -199,17 +199,17 @@ pub node_step : (a b : Seen) (level : ℕ) (keys : List ℕ) (n : ℕ) (node : N
 node_step a b level keys n node old mid new same ad named one =
     one_node_more a.held level keys n old mid new ad
     (subst (λ (m : Name). AddsKeys (IsChildKey a.held level m 8) mid new) named
-    (subst (λ (s : Seen). AddsKeys (IsChildKey s.held level node 8) mid new) same one))
+    (subst (λ (s : StoreState). AddsKeys (IsChildKey s.held level node 8) mid new) same one))
 
-pub still_block : (a b : Seen) (level : ℕ) (node : Name) → b ≡ a → HasBlock a.held level (Some node)
+pub still_block : (a b : StoreState) (level : ℕ) (node : Name) → b ≡ a → HasBlock a.held level (Some node)
     → HasBlock b.held level (Some node)
 still_block a b level node same h =
-    subst (λ (s : Seen). HasBlock s.held level (Some node)) (sym same) h
+    subst (λ (s : StoreState). HasBlock s.held level (Some node)) (sym same) h
 
-pub still_reached : (a b : Seen) (level : ℕ) (keys : List ℕ) → b ≡ a → AreReached a.held level keys
+pub still_reached : (a b : StoreState) (level : ℕ) (keys : List ℕ) → b ≡ a → AreReached a.held level keys
     → AreReached b.held level keys
 still_reached a b level keys same r =
-    subst (λ (s : Seen). AreReached s.held level keys) (sym same) r
+    subst (λ (s : StoreState). AreReached s.held level keys) (sym same) r
 
 -- all of them, sorted
 pub children_sorted : (held : List Tree) (level n : ℕ) (keys found sorted : List ℕ)

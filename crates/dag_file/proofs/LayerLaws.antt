@@ -14,7 +14,7 @@ use Rattle.node_words.proofs.OfShapes.ShapeLaws.{octant_canonical}
 use Rattle.node_words.specs.descent.Roots.{IsBlockOf, IsOctantOf}
 use Rattle.node_words.proofs.OfDescent.BlockLaws.{clear_block}
 use Rattle.dag_file.specs.Places.{leaf_at, node_word_at, count_in, entry_place}
-use Rattle.dag_file.specs.Rules.{IsLeafRight, IsNodeRight, IsEntryRight, AreEntriesRight, AreEntriesNamed, IsNamed, HasWord, ComesBefore}
+use Rattle.dag_file.specs.Rules.{IsLeafRight, IsNodeRight, IsEntryRight, AreEntriesRight, AreEntriesNamed, IsNamed, HasWord, SortsBefore}
 use Rattle.dag_file.specs.Trees.{entry_name, named_index, word_tree}
 use Rattle.dag_file.specs.Kept.{entry_shape}
 use Rattle.dag_file.specs.Writes.{AreChildren, IsWordOfName, HasByteSlot, file_bytes}
@@ -401,7 +401,7 @@ module _ (held : List Tree) (side top : ℕ) (counts leaves : List ℕ) (nodes p
 
     -- the words of entries rise
     node_rises : (i : ℕ) → i + 1 < length x.sorted
-        → ComesBefore F (entry_place F (suc top) (suc level) i)
+        → SortsBefore F (entry_place F (suc top) (suc level) i)
         (entry_place F (suc top) (suc level) (i + 1))
     node_rises i lt =
         let eight_of : (q : ℕ) → q < length x.sorted → length (slice_index_or x.sorted q []) ≡ 8 =
@@ -452,8 +452,8 @@ module _ (held : List Tree) (side top : ℕ) (counts leaves : List ℕ) (nodes p
               let before : i - 1 + 1 ≡ i = omega (arith, later) in
               let up = node_rises (i - 1) (omega (arith, later, inside)) in
               let place : entry_place F (suc top) (suc level) (i - 1) ≡ entry_place F (suc top) (suc level) i - 32 = omega (arith, later) in
-              subst (λ (p : ℕ). ComesBefore F p (entry_place F (suc top) (suc level) i)) place
-              (subst (λ (q : ℕ). ComesBefore F (entry_place F (suc top) (suc level) (i - 1))
+              subst (λ (p : ℕ). SortsBefore F p (entry_place F (suc top) (suc level) i)) place
+              (subst (λ (q : ℕ). SortsBefore F (entry_place F (suc top) (suc level) (i - 1))
               (entry_place F (suc top) (suc level) q)) before up));
         }
 

@@ -8,22 +8,22 @@ use Rattle.byteorder.specs.Numbers.{little_number-reads_back}
 use Rattle.dag_file.specs.Places.{number_at, leaf_at}
 
 -- a piece stands in bytes at a place
-pub record StandsAt (bytes : List ℕ) (place : ℕ) (piece : List ℕ) : Type 0 where
+pub record HasPieceAt (bytes : List ℕ) (place : ℕ) (piece : List ℕ) : Type 0 where
   pub before : List ℕ
   pub after : List ℕ
   pub is : bytes ≡ before ++ (piece ++ after)
   pub at : length before ≡ place
 
-pub first_part : (a b : List ℕ) → StandsAt (a ++ b) 0 a
+pub first_part : (a b : List ℕ) → HasPieceAt (a ++ b) 0 a
 first_part a b = record { before = []; after = b; is = refl; at = refl }
 
-pub second_part : (a b : List ℕ) (n : ℕ) → length a ≡ n → StandsAt (a ++ b) n b
+pub second_part : (a b : List ℕ) (n : ℕ) → length a ≡ n → HasPieceAt (a ++ b) n b
 second_part a b n e =
     record { before = a; after = []; is = ap (λ (l : List ℕ). a ++ l) (sym (append-nil b)); at = e }
 
 -- a piece of a piece
-pub further : (w q s : List ℕ) (p r t : ℕ) → StandsAt w p q → StandsAt q r s → p + r ≡ t
-    → StandsAt w t s
+pub further : (w q s : List ℕ) (p r t : ℕ) → HasPieceAt w p q → HasPieceAt q r s → p + r ≡ t
+    → HasPieceAt w t s
 further w q s p r t x y e = record {
   before = x.before ++ y.before;
   after = y.after ++ x.after;
@@ -38,7 +38,7 @@ further w q s p r t x y e = record {
 }
 
 -- the numbers that were put are read back
-pub number_there : (w : List ℕ) (p n : ℕ) → StandsAt w p (little_bytes 4 n) → n < 256 ^ 4
+pub number_there : (w : List ℕ) (p n : ℕ) → HasPieceAt w p (little_bytes 4 n) → n < 256 ^ 4
     → number_at w p ≡ n
 unfolding number_at
 number_there w p n x fits =
@@ -46,7 +46,7 @@ number_there w p n x fits =
     (ap (λ (l : List ℕ). drop p l) x.is ∙ drop_at x.before (little_bytes 4 n ++ x.after) p x.at)
     ∙ little_number-reads_back 4 n x.after fits
 
-pub leaf_there : (w : List ℕ) (p n : ℕ) → StandsAt w p (little_bytes 8 n) → n < 256 ^ 8
+pub leaf_there : (w : List ℕ) (p n : ℕ) → HasPieceAt w p (little_bytes 8 n) → n < 256 ^ 8
     → leaf_at w p ≡ n
 unfolding leaf_at
 leaf_there w p n x fits =
@@ -61,7 +61,7 @@ module _ {X : Type 0} (f : X → List ℕ) (c : ℕ) (d : X) where
 
   pub item_there : (xs : List X) (i : ℕ)
       → ((j : ℕ) → j < length xs → length (f (slice_index_or xs j d)) ≡ c) → i < length xs
-      → StandsAt (flat_map f xs) (c * i) (f (slice_index_or xs i d))
+      → HasPieceAt (flat_map f xs) (c * i) (f (slice_index_or xs i d))
   item_there [] i each lt = absurd (omega (arith, lt))
   item_there (x ∷ xs) zero each lt =
       record { before = []; after = flat_map f xs; is = refl; at = omega arith }

@@ -34,6 +34,10 @@ impl Task for CopyTask {
 
     ghost mixed_in = { λ level t k. blocks_in (level - 1) };
 
+    fn old(&self) -> Option<Name> {
+        self.old
+    }
+
     #[inline(always)]
     fn octant<B: Blocks>(&self, store: &mut B, level: u8, octant: u8) -> CopyTask {
         let half = half_side(level);

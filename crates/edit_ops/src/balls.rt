@@ -32,6 +32,11 @@ impl<'b> Task for BallTask<'b> {
 
     ghost mixed_in = { λ level t k. blocks_in (level - 1) };
 
+    fn old(&self) -> Option<Name> {
+        self.old
+    }
+
+    #[inline(always)]
     fn octant<B: Blocks>(&self, store: &mut B, level: u8, octant: u8) -> BallTask<'b> {
         let old = octant_name(store, level, self.old, octant);
         let block = Block { level, at: self.at };
@@ -44,6 +49,7 @@ impl<'b> Task for BallTask<'b> {
         }
     }
 
+    #[inline(always)]
     fn whole(&self, level: u8) -> Whole {
         let side = side_of(level);
         if is_outside(*self.ball, self.at, side) {

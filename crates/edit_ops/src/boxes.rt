@@ -31,6 +31,10 @@ impl Task for BoxTask {
     ghost mixed_in = { λ level t k. parts_met (level - 1)
         (part_in (block_side (level - 1)) t.part k) };
 
+    fn old(&self) -> Option<Name> {
+        self.old
+    }
+
     #[inline(always)]
     fn octant<B: Blocks>(&self, store: &mut B, level: u8, octant: u8) -> BoxTask {
         let old = octant_name(store, level, self.old, octant);

@@ -31,6 +31,10 @@ impl<'b> Task for ClipTask<'b> {
 
     ghost mixed_in = { λ level t k. blocks_in (level - 1) };
 
+    fn old(&self) -> Option<Name> {
+        self.old
+    }
+
     fn octant<B: Blocks>(&self, store: &mut B, level: u8, octant: u8) -> ClipTask<'b> {
         let old = octant_name(store, level, self.old, octant);
         let block = Block { level, at: self.at };

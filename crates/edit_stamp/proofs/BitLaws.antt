@@ -7,14 +7,14 @@ use Rattle.std.proofs.lemmas.List.{take_more, map-append}
 use Rattle.std.proofs.lemmas.List.Elements.{All-map, All-push}
 use Rattle.vw_cell.specs.declared.cells.Cell.{Cell}
 use Rattle.vox_read.specs.declared.voxels.Voxel.{Voxel}
-use Rattle.vox_read.specs.Contents.{Content, IsModel, StandsInside, stands_at, colour_of, colour_at}
+use Rattle.vox_read.specs.Contents.{Content, IsModel, IsInsideModel, is_voxel_at, colour_of, colour_at}
 use Rattle.edit_stamp.specs.Drawings.{Drawn, Draws, DrawsBit, with_bit, bit_model}
 
 pub bit_model_fine : (bit : ℕ) (model : Content) → IsModel model → IsModel (bit_model bit model)
 bit_model_fine bit model m =
     record {
       size = m.size;
-      voxels = All-map (StandsInside model.size) (with_bit bit) model.voxels
+      voxels = All-map (IsInsideModel model.size) (with_bit bit) model.voxels
           (λ k d lt. let s = m.voxels k d lt in record { x = s.x; y = s.y; z = s.z });
     }
 
@@ -25,25 +25,25 @@ turned f [] ys = refl
 turned f (x ∷ xs) ys = turned f xs (x ∷ ys)
 
 found : (bit : ℕ) (q : Cell) (voxels : List Voxel)
-    → colour_of (find (stands_at q) (map (with_bit bit) voxels))
-    ≡ bit_at (colour_of (find (stands_at q) voxels)) bit
+    → colour_of (find (is_voxel_at q) (map (with_bit bit) voxels))
+    ≡ bit_at (colour_of (find (is_voxel_at q) voxels)) bit
 found bit q [] = sym (bit_at_above 0 0 bit (omega arith) (omega arith))
-found bit q (v ∷ voxels) = cases (stands_at q v) (found bit q voxels)
+found bit q (v ∷ voxels) = cases (is_voxel_at q v) (found bit q voxels)
   where
     cases : (b : Bool)
-        → colour_of (find (stands_at q) (map (with_bit bit) voxels))
-        ≡ bit_at (colour_of (find (stands_at q) voxels)) bit
+        → colour_of (find (is_voxel_at q) (map (with_bit bit) voxels))
+        ≡ bit_at (colour_of (find (is_voxel_at q) voxels)) bit
         → colour_of
         (mathlib.Core.Bool.cond b (Some (with_bit bit v))
-        (find (stands_at q) (map (with_bit bit) voxels)))
-        ≡ bit_at (colour_of (mathlib.Core.Bool.cond b (Some v) (find (stands_at q) voxels))) bit
+        (find (is_voxel_at q) (map (with_bit bit) voxels)))
+        ≡ bit_at (colour_of (mathlib.Core.Bool.cond b (Some v) (find (is_voxel_at q) voxels))) bit
     cases true h = refl
     cases false h = h
 
 pub bit_colour : (bit : ℕ) (voxels : List Voxel) (q : Cell)
     → colour_at (map (with_bit bit) voxels) q ≡ bit_at (colour_at voxels q) bit
 bit_colour bit voxels q =
-    ap (λ (list : List Voxel). colour_of (find (stands_at q) list))
+    ap (λ (list : List Voxel). colour_of (find (is_voxel_at q) list))
     (turned (with_bit bit) voxels [])
     ∙ found bit q (reverse voxels)
 

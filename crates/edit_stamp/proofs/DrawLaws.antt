@@ -17,7 +17,7 @@ use Rattle.vox_read.proofs.Marking.{stands, stands_tells}
 use Rattle.vw_cell.specs.declared.cells.Cell.{Cell}
 use Rattle.vw_cell.specs.Counts.{cell_at, IsBelow}
 use Rattle.vox_read.specs.declared.voxels.Voxel.{Voxel}
-use Rattle.vox_read.specs.Contents.{StandsInside, stands_at}
+use Rattle.vox_read.specs.Contents.{IsInsideModel, is_voxel_at}
 use Rattle.vox_read.specs.Cells.{has_voxel}
 use Rattle.vox_read.proofs.Bounds.{same_place}
 use Rattle.node_words.specs.shapes.Shape.{bit_number}
@@ -108,7 +108,7 @@ record SameLeaf (q : Cell) (v : Voxel) : Type 0 where
   y : q.y / 4 ≡ v.y / 4
   z : q.z / 4 ≡ v.z / 4
 
-leaf_same : (size q : Cell) (v : Voxel) → IsBelow size q → StandsInside size v
+leaf_same : (size q : Cell) (v : Voxel) → IsBelow size q → IsInsideModel size v
     → leaf_number size (q.x / 4) (q.y / 4) (q.z / 4) ≡ leaf_number size (v.x / 4) (v.y / 4)
     (v.z / 4) → SameLeaf q v
 unfolding leaf_size leaf_place
@@ -121,7 +121,7 @@ leaf_same size q v b s e =
 bits_stand : (q : Cell) (v : Voxel) → SameLeaf q v
     →
     (bit_number (q.x % 4) (q.y % 4) (q.z % 4) == bit_number (v.x % 4) (v.y % 4) (v.z % 4))
-    ≡ stands_at q v
+    ≡ is_voxel_at q v
 bits_stand q v l =
     let n : ℕ = bit_number (q.x % 4) (q.y % 4) (q.z % 4) in
     let m : ℕ = bit_number (v.x % 4) (v.y % 4) (v.z % 4) in
@@ -135,7 +135,7 @@ bits_stand q v l =
     tested n m e = grind (arith, nat_tests)
 
 pub drawing_more : (size : Cell) (items : List Voxel) (k : ℕ) (d : Voxel) (words : List ℕ)
-    (leaf old word : ℕ) → k < length items → StandsInside size (get_or items k d)
+    (leaf old word : ℕ) → k < length items → IsInsideModel size (get_or items k d)
     → Drawing size (take k items) words
     → leaf ≡ leaf_number size ((get_or items k d).x / 4) ((get_or items k d).y / 4)
     ((get_or items k d).z / 4) → leaf < length words → old ≡ get_or words leaf old
@@ -160,15 +160,15 @@ drawing_more size items k d words leaf old word lt s so_far e inside was bits = 
         (bit_number (q.x % 4) (q.y % 4) (q.z % 4)) == 1) (sym same)
         ∙ so_far.each q b)
         ∙ ap (λ (t : Bool). has_voxel (take k items) q || t) (bits_stand q (get_or items k d) l)
-        ∙ sym (list_any_more (stands_at q) items k d lt)
+        ∙ sym (list_any_more (is_voxel_at q) items k d lt)
     | inr other ↦
         ap (λ (w : ℕ). bit_at w (bit_number (q.x % 4) (q.y % 4) (q.z % 4)) == 1)
         (get_or-set_other words leaf
         (leaf_number size (q.x / 4) (q.y / 4) (q.z / 4)) word 0 other)
         ∙ so_far.each q b
-        ∙ or_none _ (stands_at q (get_or items k d))
+        ∙ or_none _ (is_voxel_at q (get_or items k d))
         (λ t. other (one_leaf q (stands_tells q (get_or items k d) t) ∙ sym e))
-        ∙ sym (list_any_more (stands_at q) items k d lt)
+        ∙ sym (list_any_more (is_voxel_at q) items k d lt)
   ];
 }
   where

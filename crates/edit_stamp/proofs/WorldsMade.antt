@@ -4,10 +4,10 @@ use Rattle.std.specs.Prelude.{Result}
 use Rattle.vw_cell.specs.declared.cells.Cell.{Cell}
 use Rattle.node_words.specs.declared.shapes.names.Name.{Name}
 use Rattle.node_words.specs.declared.shares.Full.{Full}
-use Rattle.node_words.specs.Held.{Seen}
+use Rattle.node_words.specs.Held.{StoreState}
 use Rattle.edit_walk.specs.Edits.{Rebuilds}
 
-pub made_as : (level : ℕ) (v w : Cell → Bool) (old new : Seen) → v ≡ w
+pub made_as : (level : ℕ) (v w : Cell → Bool) (old new : StoreState) → v ≡ w
     → (result : Result (Option Name) Full) → Rebuilds level v result old new
     → Rebuilds level w result old new
 made_as level v w old new same result made =

@@ -15,4 +15,4 @@ mod tiers;
 
 pub use laws::stencils_stamp_their_models;
 pub use rebuild::{rebuild_stamp, rebuild_unstamp};
-pub use stencils::{Shown, Stencil};
+pub use stencils::{Stencil, StencilCover};

@@ -30,6 +30,10 @@ impl<'s> Task for StampTask<'s> {
 
     ghost mixed_in = { λ level t k. blocks_in (level - 1) };
 
+    fn old(&self) -> Option<Name> {
+        self.old
+    }
+
     fn octant<B: Blocks>(&self, store: &mut B, level: u8, octant: u8) -> StampTask<'s> {
         let old = octant_name(store, level, self.old, octant);
         let block = Block { level, at: self.at };

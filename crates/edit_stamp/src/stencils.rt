@@ -3,14 +3,14 @@ ghost use Rattle.std.specs.Prelude.{◌≡◌, ◌+◌, ◌-◌, ◌*◌, ◌/�
 ghost use Rattle.std.specs.Prelude.{IfOk, ◌==◌, ◌&&◌, ◌||◌};
 ghost use Rattle.std.specs.Int.{bit_at};
 ghost use Rattle.node_words.specs.shapes.Shape.{bit_number};
-ghost use Rattle.vox_read.specs.Contents.{IsModel, IsSize, StandsInside};
+ghost use Rattle.vox_read.specs.Contents.{IsModel, IsSize, IsInsideModel};
 ghost use Rattle.vw_cell.specs.declared.blocks.Block.{Block};
 ghost use Rattle.node_words.specs.kernels.Leaves.{LeafShows};
 ghost use Rattle.vw_cell.specs.Places.{block_side};
 ghost use Rattle.edit_stamp.specs.Drawings.{IsWord, Draws, DrawsBit, AllDrawn, Agree, AllWords, HasLeaves, leaves_of, leaf_number};
 ghost use Rattle.edit_stamp.specs.Tiers.{TellsTier};
 ghost use Rattle.edit_stamp.specs.Stamps.{is_stamped};
-ghost use Rattle.edit_stamp.specs.declared.stencils.Shown.{Shown};
+ghost use Rattle.edit_stamp.specs.declared.stencils.StencilCover.{StencilCover};
 
 use crate::planes::bit_model;
 use crate::scans::{Leaves, are_all, are_same, part_of, touched};
@@ -23,7 +23,7 @@ use vw_cell::{Block, Boxed, Cell, Memory};
 
 /// What a stencil shows of the model's places in a block of the world.
 #[derive(Clone, Copy)]
-pub enum Shown {
+pub enum StencilCover {
     /// None of them is set.
     Unset,
     /// Each of them is set.
@@ -111,26 +111,26 @@ impl Stencil {
 
     /// Both at once: whether a block's places are all unset or all set, by the same words.
     #[inline(always)]
-    pub fn shown(&self, place: Cell, at: Cell, level: u8) -> Shown
+    pub fn coverage(&self, place: Cell, at: Cell, level: u8) -> StencilCover
         requires level { level ≤ 10 }
-        ensures unset { result ≡ Shown.Unset
+        ensures unset { result ≡ StencilCover.Unset
             → AllDrawn self.now place at (block_side level) false }
-        ensures set { result ≡ Shown.Set
+        ensures set { result ≡ StencilCover.Set
             → AllDrawn self.now place at (block_side level) true }
     {
         let word = self.first_word(place, at, level);
         if word == 0 {
             if self.is_all_through(place, at, level, false) {
-                return Shown::Unset;
+                return StencilCover::Unset;
             }
-            return Shown::Either;
+            return StencilCover::Either;
         }
         if word == u64::MAX {
             if self.is_all_through(place, at, level, true) {
-                return Shown::Set;
+                return StencilCover::Set;
             }
         }
-        Shown::Either
+        StencilCover::Either
     }
 
     // Whether they are, by a look at all these words.
@@ -283,7 +283,7 @@ fn with_tiers(alloc: Global, size: Cell, words: Vec<u64>) -> Result<Stencil, Mem
 // The number of the leaf that the voxel stands in.
 fn leaf_of(size: Cell, v: Voxel) -> usize
     requires size { IsSize size }
-    requires inside { StandsInside size v }
+    requires inside { IsInsideModel size v }
     ensures value { result ≡ leaf_number size (v.x / 4) (v.y / 4) (v.z / 4) }
     ensures bound { result < leaves_of size.z * leaves_of size.y * leaves_of size.x }
 {

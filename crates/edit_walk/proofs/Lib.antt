@@ -1,4 +1,5 @@
 pub mod WalkLaws
 pub mod MemoLaws
+pub mod OutcomeLaws
 pub mod OfCells
 pub mod OfBlocks

@@ -1,5 +1,6 @@
 pub mod Edits
 pub mod Memos
+pub mod Outcomes
 pub mod Walks
 pub mod cells
 pub mod blocks

@@ -5,23 +5,23 @@ use Rattle.node_words.specs.Gathering.{IsTreeOf}
 use Rattle.node_words.specs.contents.CellShapes.{Cells, shape_with}
 use Rattle.edit_walk.specs.cells.Tasks.{Making, MakeAlike}
 use Rattle.node_words.proofs.HeldLaws.{Keeps}
-use Rattle.edit_walk.specs.declared.memos.Kept.{Kept}
+use Rattle.edit_walk.specs.declared.memos.MemoEntry.{MemoEntry}
 
 -- which blocks of each level are remembered
-abbrev pub Keeping : Type 0 → Type 1
-Keeping T = ℕ → Kept T → Type 0
+abbrev pub MemoSet : Type 0 → Type 1
+MemoSet T = ℕ → MemoEntry T → Type 0
 
 -- a block of this level that stands at some place
-abbrev pub IsKeptIn : {T : Type 0} → List (Option (Kept T)) → ℕ → Kept T → Type 0
-IsKeptIn places level e = (k : ℕ) × (slice_index_or places k None ≡ Some e) × (e.level ≡ level)
+abbrev pub IsInMemo : {T : Type 0} → List (Option (MemoEntry T)) → ℕ → MemoEntry T → Type 0
+IsInMemo places level e = (k : ℕ) × (slice_index_or places k None ≡ Some e) × (e.level ≡ level)
 
 -- it was made by a task that makes the same cells
-abbrev pub IsLike : {T : Type 0} → (T → Making) → T → Kept T → Type 0
+abbrev pub IsLike : {T : Type 0} → (T → Making) → T → MemoEntry T → Type 0
 IsLike makes task e = MakeAlike (makes task) (makes e.task)
 
 -- its name is that of the block that its task makes
 pub record IsMade {T : Type 0} (makes : T → Making) (base held : List Tree) (level : ℕ)
-    (e : Kept T) : Type 0 where
+    (e : MemoEntry T) : Type 0 where
   pub tree : Tree
   pub of : IsTreeOf held level tree e.name
   pub cells : Cells
@@ -30,12 +30,12 @@ pub record IsMade {T : Type 0} (makes : T → Making) (base held : List Tree) (l
 
 -- all that is remembered was made so, and is reached from what is held
 pub record Recalls {T : Type 0} (makes : T → Making) (base held : List Tree)
-    (memo : Keeping T) : Type 0 where
-  pub each : (level : ℕ) (e : Kept T) → memo level e → IsMade makes base held level e
+    (memo : MemoSet T) : Type 0 where
+  pub each : (level : ℕ) (e : MemoEntry T) → memo level e → IsMade makes base held level e
 
 -- all that is remembered was made by trees that are held, and is reached
 pub record RecallsHeld {T : Type 0} (makes : T → Making) (held : List Tree)
-    (memo : Keeping T) : Type 0 where
+    (memo : MemoSet T) : Type 0 where
   pub base : List Tree
   pub keeps : Keeps base held
   pub recalls : Recalls makes base held memo

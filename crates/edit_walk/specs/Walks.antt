@@ -5,27 +5,30 @@ use Rattle.node_words.specs.declared.shapes.names.Name.{Name}
 use Rattle.node_words.specs.shapes.Shape.{Shape, octant_shape}
 use Rattle.node_words.specs.shapes.Tree.{Tree}
 use Rattle.node_words.specs.declared.shares.Full.{Full}
-use Rattle.node_words.specs.Held.{Seen}
+use Rattle.node_words.specs.Held.{StoreState}
 use Rattle.node_words.specs.Gathering.{Grows}
 use Rattle.node_words.proofs.HeldLaws.{Keeps}
 use Rattle.node_words.specs.contents.CellShapes.{Cells, shape_with}
 use Rattle.edit_walk.specs.declared.cells.tasks.Whole.{Whole}
 use Rattle.edit_walk.specs.cells.Tasks.{Making, IsWhole}
 use Rattle.edit_walk.specs.cells.Worlds.{world_cells}
-use Rattle.edit_walk.specs.blocks.Blocks.{Aside, Came, Gathers, StopsAside, height}
-use Rattle.edit_walk.specs.Memos.{Keeping, Recalls}
+use Rattle.edit_walk.specs.blocks.Blocks.{Aside, GainedShare, StopsAside, height}
+use Rattle.edit_walk.specs.declared.outcomes.WalkedBlock.{WalkedBlock}
+use Rattle.edit_walk.specs.declared.outcomes.WalkedBlock.TheVariants.{Stands, Made}
+use Rattle.edit_walk.specs.Outcomes.{FoundBeside, FindsOctants}
+use Rattle.edit_walk.specs.Memos.{MemoSet, Recalls}
 
 -- the state of a walk: what the store is seen as, the full block kept aside, and what is remembered
 pub record Walk (T : Type 0) : Type 1 where
-  pub seen : Seen
+  pub seen : StoreState
   pub full : Option Name
-  pub memo : Keeping T
+  pub memo : MemoSet T
 
-abbrev pub walk_at : {T : Type 0} → Seen → Option Name → Keeping T → Walk T
+abbrev pub walk_at : {T : Type 0} → StoreState → Option Name → MemoSet T → Walk T
 walk_at seen full memo = record { seen = seen; full = full; memo = memo }
 
 -- trees that stay held, the rest, and a full block aside
-pub record Starts (base rest : List Tree) (seen : Seen) (full : Option Name) : Type 0 where
+pub record Starts (base rest : List Tree) (seen : StoreState) (full : Option Name) : Type 0 where
   pub keeps : Keeps base rest
   pub aside : Aside seen.held full rest
 
@@ -40,17 +43,24 @@ pub record Begins {T : Type 0} (makes : T → Making) (base rest : List Tree) (l
 -- besides the rest a share came, and the memo tells of what is reached now
 pub record Built {T : Type 0} (makes : T → Making) (base rest : List Tree) (level : ℕ)
     (target : Shape) (name : Option Name) (walk : Walk T) : Type 0 where
-  pub came : Came rest level target name walk.seen.held walk.full
+  pub came : GainedShare rest level target name walk.seen.held walk.full
   pub recalls : Recalls makes base came.now walk.memo
 
--- shares came for the first n octants of the block that the task makes
+-- besides the rest the block was found, and the memo tells of what is reached now
+pub record Found {T : Type 0} (makes : T → Making) (base rest : List Tree) (level : ℕ)
+    (target : Shape) (block : WalkedBlock) (walk : Walk T) : Type 0 where
+  pub came : FoundBeside rest level target block walk.seen.held walk.full
+  pub recalls : Recalls makes base came.now walk.memo
+
+-- the first n octants of the block that the task makes were found
 pub record Partway {T : Type 0} (makes : T → Making) (base rest : List Tree) (level : ℕ) (task : T)
-    (cells : Cells) (children : List (Option Name)) (n : ℕ) (walk : Walk T) : Type 0 where
+    (cells : Cells) (children standing : List (Option Name)) (n : ℕ) (walk : Walk T)
+    : Type 0 where
   pub keeps : Keeps base rest
   pub made : makes task base level cells
-  pub gathers : Gathers rest (level - 1)
-      (shape_with level cells) children n walk.seen.held walk.full
-  pub recalls : Recalls makes base gathers.now walk.memo
+  pub finds : FindsOctants rest (level - 1)
+      (shape_with level cells) children standing 0 n walk.seen.held walk.full
+  pub recalls : Recalls makes base finds.now walk.memo
 
 -- a walk of the task's block can begin
 abbrev pub CanBuild : {T : Type 0} → (T → Making) → ℕ → T → Walk T → Type 0
@@ -87,55 +97,97 @@ WalksBlock makes level task old result new =
     ForBuilding makes level task old
     (λ base rest cells. WalkCame makes base rest level (shape_with level cells) result old new)
 
--- shares came of its octants
+-- the same of a block of which a share is taken only where none like it stands
+pub record FoundTo {T : Type 0} (makes : T → Making) (base rest : List Tree) (level : ℕ)
+    (target : Shape) (block : WalkedBlock) (old new : Walk T) : Type 0 where
+  pub found : Found makes base rest level target block new
+  pub grows : Grows target old.seen new.seen
+
+abbrev pub BlockFound : {T : Type 0} → (T → Making) → List Tree → List Tree → ℕ → Shape
+    → Result WalkedBlock Full → Walk T → Walk T → Type 0
+BlockFound makes base rest level target (Ok block) old new =
+    FoundTo makes base rest level target block old new
+BlockFound makes base rest level target (Err full) old new =
+    StopsAside rest target full old.seen new.seen new.full
+
+abbrev pub FindsBlock : {T : Type 0} → (T → Making) → ℕ → T → Walk T → Result WalkedBlock Full
+    → Walk T → Type 0
+FindsBlock makes level task old result new =
+    ForBuilding makes level task old
+    (λ base rest cells. BlockFound makes base rest level (shape_with level cells) result old new)
+
+-- a block that is known as a whole was found
+pub record WholeFoundTo (rest : List Tree) (level : ℕ) (target : Shape) (block : WalkedBlock)
+    (old new : StoreState) (after : Option Name) : Type 0 where
+  pub found : FoundBeside rest level target block new.held after
+  pub grows : Grows target old new
+
+abbrev pub WholeFound : List Tree → ℕ → Shape → Result WalkedBlock Full → StoreState → StoreState
+    → Option Name → Type 0
+WholeFound rest level target (Ok block) old new after =
+    WholeFoundTo rest level target block old new after
+WholeFound rest level target (Err full) old new after = StopsAside rest target full old new after
+
+-- its octants were found
 pub record GatheredAll {T : Type 0} (makes : T → Making) (base rest : List Tree) (level : ℕ)
-    (task : T) (cells : Cells) (children : List (Option Name)) (old new : Walk T) : Type 0 where
-  pub partway : Partway makes base rest level task cells children 8 new
+    (task : T) (cells : Cells) (children standing : List (Option Name)) (old new : Walk T)
+    : Type 0 where
+  pub partway : Partway makes base rest level task cells children standing 8 new
   pub grows : Grows (shape_with level cells) old.seen new.seen
 
 -- or a part of the block met this full bucket
 abbrev pub GatherCame : {T A : Type 0} → (T → Making) → List Tree → List Tree → ℕ → T → Cells
-    → List (Option Name) → Result A Full → Walk T → Walk T → Type 0
-GatherCame makes base rest level task cells children (Ok done) old new =
-    GatheredAll makes base rest level task cells children old new
-GatherCame makes base rest level task cells children (Err full) old new =
+    → List (Option Name) → List (Option Name) → Result A Full → Walk T → Walk T → Type 0
+GatherCame makes base rest level task cells children standing (Ok done) old new =
+    GatheredAll makes base rest level task cells children standing old new
+GatherCame makes base rest level task cells children standing (Err full) old new =
     StopsAside rest (shape_with level cells) full old.seen new.seen new.full
 
 abbrev pub WalksOctants : {T A : Type 0} → (T → Making) → ℕ → T → Walk T → List (Option Name)
-    → Result A Full → Walk T → Type 0
-WalksOctants makes level task old children result new =
+    → List (Option Name) → Result A Full → Walk T → Type 0
+WalksOctants makes level task old children standing result new =
     ForBuilding makes level task old
-    (λ base rest cells. GatherCame makes base rest level task cells children result old new)
+    (λ base rest cells. GatherCame makes base rest level task cells children standing result old
+    new)
 
--- so many turns beside 16 for each level by which the full block aside grew, and 25 for each mixed
--- block; and how high it is now
+-- at most so many turns beside 16 for each level by which the full block aside grew, and 25 for each
+-- mixed block; and how high it is at most now
 pub record TookTurns (own top mixed : ℕ) (before after : Option Name) (old new : ℕ) : Type 0 where
   pub turns : new + 16 * height before ≤ old + 16 * height after + own + 25 * mixed
   pub height_is : height after ≤ max (height before) top
 
--- shares of the octants before octant k are in hand
-abbrev pub CanGoOn : {T : Type 0} → (T → Making) → ℕ → T → List (Option Name) → ℕ → Walk T → Type 0
-CanGoOn makes level task children k walk =
+-- those of a walk that tells a block that stands from a share of one: the first takes no turn
+abbrev pub FoundTurns : ℕ → ℕ → Result WalkedBlock Full → Option Name → Option Name → ℕ → ℕ → Type 0
+FoundTurns top mixed (Ok (Stands name)) before after old new =
+    TookTurns 0 top mixed before after old new
+FoundTurns top mixed (Ok (Made name)) before after old new =
+    TookTurns 1 top mixed before after old new
+FoundTurns top mixed (Err full) before after old new = Unit {0}
+
+-- the octants before octant k were found
+abbrev pub CanGoOn : {T : Type 0} → (T → Making) → ℕ → T → List (Option Name) → List (Option Name)
+    → ℕ → Walk T → Type 0
+CanGoOn makes level task children standing k walk =
     (base : List Tree) × (rest : List Tree) × (cells : Cells)
-    × Partway makes base rest level task cells children k walk
+    × Partway makes base rest level task cells children standing k walk
 
 -- P of all that the octant can begin with: the trees that stay held, what is held besides the full
 -- block, and the octant's shape
-abbrev pub ForOctant : {T : Type 0} → (T → Making) → ℕ → T → List (Option Name) → ℕ → Walk T
-    → (List Tree → List Tree → Shape → Type 0) → Type 0
-ForOctant makes level task children k walk P =
+abbrev pub ForOctant : {T : Type 0} → (T → Making) → ℕ → T → List (Option Name)
+    → List (Option Name) → ℕ → Walk T → (List Tree → List Tree → Shape → Type 0) → Type 0
+ForOctant makes level task children standing k walk P =
     (base rest : List Tree) (cells : Cells)
-    → (p : Partway makes base rest level task cells children k walk)
-    → P base p.gathers.now (octant_shape (shape_with level cells) k)
+    → (p : Partway makes base rest level task cells children standing k walk)
+    → P base p.finds.now (octant_shape (shape_with level cells) k)
 
 -- the block is known as a whole
-abbrev pub CanBeWhole : ℕ → Whole → Seen → Option Name → Type 0
+abbrev pub CanBeWhole : ℕ → Whole → StoreState → Option Name → Type 0
 CanBeWhole level whole seen full =
     (base : List Tree) × (rest : List Tree) × (cells : Cells) × Starts base rest seen full
     × IsWhole base level cells whole
 
 -- P of each such block: of the rest, and of the block's shape
-abbrev pub ForWhole : ℕ → Whole → Seen → Option Name → (List Tree → Shape → Type 0) → Type 0
+abbrev pub ForWhole : ℕ → Whole → StoreState → Option Name → (List Tree → Shape → Type 0) → Type 0
 ForWhole level whole seen full P =
     (base rest : List Tree) (cells : Cells) → Starts base rest seen full
     → IsWhole base level cells whole

@@ -11,6 +11,7 @@ mod fulls;
 mod rows;
 mod shares;
 
+pub(crate) use blocks::are_none;
 pub use blocks::{join, leaf};
 pub use fulls::full_block;
 pub use rows::{back_all, put};

@@ -1,8 +1,8 @@
 //! What an edit makes of a block, told by cells: the trait of tasks, and what edits share that set
 //! or clear the cells of a test.
 //!
-//! A task reads a store and makes nothing in it. What tasks promise is in `specs/cells/Tasks.antt`, and
-//! the words of worlds for it in `specs/cells/Worlds.antt`.
+//! A task reads a store and makes nothing in it. What tasks promise is in `specs/cells/Tasks.antt`,
+//! and the words of worlds for it in `specs/cells/Worlds.antt`.
 
 mod paints;
 mod sides;

@@ -1,14 +1,14 @@
 ghost use Rattle.std.specs.Prelude.{◌≡◌, ◌<◌, ◌⊎◌, ℕ, Option, Some, None, IfSome, IsTrue};
 ghost use Rattle.edit_walk.specs.cells.Tasks.{MakeAlike};
-ghost use Rattle.edit_walk.specs.declared.memos.Kept.{Kept};
-ghost use Rattle.edit_walk.specs.Memos.{IsKeptIn, IsLike};
+ghost use Rattle.edit_walk.specs.declared.memos.MemoEntry.{MemoEntry};
+ghost use Rattle.edit_walk.specs.Memos.{IsInMemo, IsLike};
 
 use crate::cells::Task;
 use node_words::Name;
 
 /// A block of some level that a task made: its name, or none where nothing is set.
 #[derive(Clone, Copy)]
-pub struct Kept<T> {
+pub struct MemoEntry<T> {
     pub level: u8,
     pub task: T,
     pub name: Option<Name>,
@@ -18,16 +18,16 @@ pub struct Kept<T> {
 /// cells.
 pub trait Memo<T: Task> {
     /// A block of this level is remembered.
-    ghost has: { Self → ℕ → Kept T → Type 0 };
+    ghost has: { Self → ℕ → MemoEntry T → Type 0 };
 
     /// A block of this level that a task of the same cells made. It may miss one.
-    fn find(&self, level: u8, task: &T) -> Option<Kept<T>>
+    fn find(&self, level: u8, task: &T) -> Option<MemoEntry<T>>
         ensures kept { IfSome result (λ e. has self.now level e) }
         ensures same { IfSome result (λ e. IsLike T.makes task.now e) };
 
     /// One more block is remembered, and others may be forgotten.
-    fn keep(&mut self, kept: Kept<T>)
-        ensures { (level : ℕ) (e : Kept T) → has self.new level e
+    fn keep(&mut self, kept: MemoEntry<T>)
+        ensures { (level : ℕ) (e : MemoEntry T) → has self.new level e
             → ((level ≡ kept.level) × (e ≡ kept)) ⊎ has self.old level e };
 }
 
@@ -38,12 +38,12 @@ pub struct NoMemo;
 impl<T: Task> Memo<T> for NoMemo {
     ghost has = { λ m level e. ⊥ };
 
-    fn find(&self, _level: u8, _task: &T) -> Option<Kept<T>> {
+    fn find(&self, _level: u8, _task: &T) -> Option<MemoEntry<T>> {
         None
     }
 
-    fn keep(&mut self, _kept: Kept<T>)
-        ensures { (level : ℕ) (e : Kept T) → ⊥
+    fn keep(&mut self, _kept: MemoEntry<T>)
+        ensures { (level : ℕ) (e : MemoEntry T) → ⊥
             → ((level ≡ _kept.level) × (e ≡ _kept)) ⊎ ⊥ }
     {}
 }
@@ -64,13 +64,13 @@ pub trait Repeats: Task {
 /// memory but the stack's.
 #[derive(Drop)]
 pub struct Latest<T> {
-    places: [Option<Kept<T>>; 2048],
+    places: [Option<MemoEntry<T>>; 2048],
 }
 
 impl<T: Repeats> Latest<T> {
     /// Nothing yet.
     pub fn new() -> Latest<T>
-        ensures { (level : ℕ) (e : Kept T) → ¬ IsKeptIn result.places level e }
+        ensures { (level : ℕ) (e : MemoEntry T) → ¬ IsInMemo result.places level e }
     {
         Latest {
             places: [None; 2048],
@@ -79,11 +79,11 @@ impl<T: Repeats> Latest<T> {
 }
 
 impl<T: Repeats> Memo<T> for Latest<T> {
-    ghost use Rattle.edit_walk.specs.Memos.{IsKeptIn};
+    ghost use Rattle.edit_walk.specs.Memos.{IsInMemo};
 
-    ghost has = { λ m. IsKeptIn m.places };
+    ghost has = { λ m. IsInMemo m.places };
 
-    fn find(&self, level: u8, task: &T) -> Option<Kept<T>> {
+    fn find(&self, level: u8, task: &T) -> Option<MemoEntry<T>> {
         let kept = self.places[task.place(level)]?;
         if kept.level == level && task.is_same(&kept.task) {
             Some(kept)
@@ -92,9 +92,9 @@ impl<T: Repeats> Memo<T> for Latest<T> {
         }
     }
 
-    fn keep(&mut self, kept: Kept<T>)
-        ensures { (level : ℕ) (e : Kept T) → IsKeptIn self.new.places level e
-            → ((level ≡ kept.level) × (e ≡ kept)) ⊎ IsKeptIn self.old.places level e }
+    fn keep(&mut self, kept: MemoEntry<T>)
+        ensures { (level : ℕ) (e : MemoEntry T) → IsInMemo self.new.places level e
+            → ((level ≡ kept.level) × (e ≡ kept)) ⊎ IsInMemo self.old.places level e }
     {
         self.places[kept.task.place(kept.level)] = Some(kept);
     }

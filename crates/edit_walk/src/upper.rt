@@ -1,8 +1,8 @@
 ghost use Rattle.std.specs.Prelude.{◌≡◌, ◌<◌, ◌⊎◌, ℕ};
-ghost use Rattle.edit_walk.specs.declared.memos.Kept.{Kept};
-ghost use Rattle.edit_walk.specs.Memos.{IsKeptIn};
+ghost use Rattle.edit_walk.specs.declared.memos.MemoEntry.{MemoEntry};
+ghost use Rattle.edit_walk.specs.Memos.{IsInMemo};
 
-use crate::memos::{Kept, Memo, Repeats};
+use crate::memos::{Memo, MemoEntry, Repeats};
 
 // The least level of the blocks that are remembered: a block has 32 cells on each axis.
 const LEAST: u8 = 3;
@@ -12,13 +12,13 @@ const LEAST: u8 = 3;
 /// same. It takes no memory but the stack's.
 #[derive(Drop)]
 pub struct Upper<T> {
-    places: [Option<Kept<T>>; 512],
+    places: [Option<MemoEntry<T>>; 512],
 }
 
 impl<T: Repeats> Upper<T> {
     /// Nothing yet.
     pub fn new() -> Upper<T>
-        ensures { (level : ℕ) (e : Kept T) → ¬ IsKeptIn result.places level e }
+        ensures { (level : ℕ) (e : MemoEntry T) → ¬ IsInMemo result.places level e }
     {
         Upper {
             places: [None; 512],
@@ -37,11 +37,11 @@ impl<T: Repeats> Upper<T> {
 }
 
 impl<T: Repeats> Memo<T> for Upper<T> {
-    ghost use Rattle.edit_walk.specs.Memos.{IsKeptIn};
+    ghost use Rattle.edit_walk.specs.Memos.{IsInMemo};
 
-    ghost has = { λ m. IsKeptIn m.places };
+    ghost has = { λ m. IsInMemo m.places };
 
-    fn find(&self, level: u8, task: &T) -> Option<Kept<T>> {
+    fn find(&self, level: u8, task: &T) -> Option<MemoEntry<T>> {
         if level < LEAST {
             return None;
         }
@@ -53,9 +53,9 @@ impl<T: Repeats> Memo<T> for Upper<T> {
         }
     }
 
-    fn keep(&mut self, kept: Kept<T>)
-        ensures { (level : ℕ) (e : Kept T) → IsKeptIn self.new.places level e
-            → ((level ≡ kept.level) × (e ≡ kept)) ⊎ IsKeptIn self.old.places level e }
+    fn keep(&mut self, kept: MemoEntry<T>)
+        ensures { (level : ℕ) (e : MemoEntry T) → IsInMemo self.new.places level e
+            → ((level ≡ kept.level) × (e ≡ kept)) ⊎ IsInMemo self.old.places level e }
     {
         if kept.level < LEAST {
             return;

@@ -5,21 +5,20 @@ ghost use Rattle.node_words.specs.Held.{name_in};
 ghost use Rattle.node_words.specs.contents.CellShapes.{shape_with};
 ghost use Rattle.edit_walk.specs.cells.Tasks.{MakesCells, ForCells};
 ghost use Rattle.edit_walk.specs.Edits.{MakesBlock};
-ghost use Rattle.edit_walk.specs.blocks.Blocks.{BlockCame};
-ghost use Rattle.edit_walk.specs.declared.memos.Kept.{Kept};
+ghost use Rattle.edit_walk.specs.declared.memos.MemoEntry.{MemoEntry};
 ghost use Rattle.edit_walk.specs.Memos.{RecallsHeld};
-ghost use Rattle.edit_walk.specs.Walks.{walk_at, CanBuild, TookTurns, WalksBlock, WalkCame, WalksOctants, CanGoOn, ForOctant, CanBeWhole, ForWhole};
+ghost use Rattle.edit_walk.specs.Walks.{walk_at, CanBuild, TookTurns, FoundTurns, WalksBlock, FindsBlock, BlockFound, WholeFound, WalksOctants, CanGoOn, ForOctant, CanBeWhole, ForWhole};
 
-use crate::blocks::{again, back_all, back_if, full_block, join, leaf, named, put};
+use crate::blocks::{back_all, back_if, full_block};
 use crate::cells::{Task, Whole};
-use crate::memos::{Kept, Memo};
-use node_words::{Full, NodeStore, Share, Steps, end_all};
+use crate::memos::{Memo, MemoEntry};
+use crate::outcomes::{WalkedBlock, lay, leaf_or_old, node_or_old, taken_up};
+use node_words::{Full, Name, NodeStore, Share, Steps, end_all};
 use std::sync::ledger::Ledger;
 
 // A share of the block that the task makes, where a cell of it is set, or the full bucket that was
 // met.
-#[cycle(walk)]
-fn build<T: Task, M: Memo<T>, N: NodeStore, L: Ledger>(
+fn share_of<T: Task, M: Memo<T>, N: NodeStore, L: Ledger>(
     store: &mut N,
     level: u8,
     task: &T,
@@ -38,15 +37,42 @@ fn build<T: Task, M: Memo<T>, N: NodeStore, L: Ledger>(
     ensures took { OnOk result (TookTurns 1 (level + 1) (T.mixed level task.now) full.old full.new
         steps.old steps.new) }
 {
+    match build(store, level, task, full, memo, steps) {
+        Ok(block) => Ok(taken_up(store, block, steps)),
+        Err(e) => Err(e),
+    }
+}
+
+// The block that the task makes, or the full bucket that was met.
+#[cycle(walk)]
+fn build<T: Task, M: Memo<T>, N: NodeStore, L: Ledger>(
+    store: &mut N,
+    level: u8,
+    task: &T,
+    full: &mut Option<Share>,
+    memo: &mut M,
+    steps: &mut Steps<L>,
+) -> Result<WalkedBlock, Full>
+    requires level { (level ≤ 10) × (level + 2 ≤ (N.seen store.old).plan.side) }
+    requires task { CanBuild T.makes level task.now
+        (walk_at (N.seen store.old) full.old (M.has memo.old)) }
+    requires room { number_of_trees (N.seen store.old).held + 9 * level ≤ 4000 }
+    ensures walked { FindsBlock T.makes level task.now
+        (walk_at (N.seen store.old) full.old (M.has memo.old)) result
+        (walk_at (N.seen store.new) full.new (M.has memo.new)) }
+    ensures rests { N.rests store.old store.new }
+    ensures took { FoundTurns (level + 1) (T.mixed level task.now) result full.old full.new
+        steps.old steps.new }
+{
     let whole = task.whole(level);
     if !whole.is_mixed() {
         return match known(store, level, whole, full, steps) {
-            Ok(share) => Ok(share),
+            Ok(block) => Ok(block),
             Err(e) => Err(e),
         };
     }
     match memo.find(level, task) {
-        Some(kept) => Ok(again(store, kept.name, steps)),
+        Some(kept) => Ok(WalkedBlock::Stands(kept.name)),
         None => fresh(store, level, task, full, memo, steps),
     }
 }
@@ -60,29 +86,29 @@ fn fresh<T: Task, M: Memo<T>, N: NodeStore, L: Ledger>(
     full: &mut Option<Share>,
     memo: &mut M,
     steps: &mut Steps<L>,
-) -> Result<Option<Share>, Full>
+) -> Result<WalkedBlock, Full>
     requires level { (level ≤ 10) × (level + 2 ≤ (N.seen store.old).plan.side) }
     requires task { CanBuild T.makes level task.now
         (walk_at (N.seen store.old) full.old (M.has memo.old)) }
     requires room { number_of_trees (N.seen store.old).held + 9 * level ≤ 4000 }
     requires mixed { 1 ≤ level
         → 1 + sum_below 8 (T.mixed_in level task.now) ≤ T.mixed level task.now }
-    ensures walked { WalksBlock T.makes level task.now
+    ensures walked { FindsBlock T.makes level task.now
         (walk_at (N.seen store.old) full.old (M.has memo.old)) result
         (walk_at (N.seen store.new) full.new (M.has memo.new)) }
     ensures rests { N.rests store.old store.new }
-    ensures took { OnOk result (TookTurns 1 (level + 1) (T.mixed level task.now) full.old full.new
-        steps.old steps.new) }
+    ensures took { FoundTurns (level + 1) (T.mixed level task.now) result full.old full.new
+        steps.old steps.new }
 {
     match made(store, level, task, full, memo, steps) {
-        Ok(share) => {
-            let name = named(&share);
-            memo.keep(Kept {
+        Ok(block) => {
+            let name = block.name();
+            memo.keep(MemoEntry {
                 level,
                 task: *task,
                 name,
             });
-            Ok(share)
+            Ok(block)
         }
         Err(e) => Err(e),
     }
@@ -97,33 +123,38 @@ fn made<T: Task, M: Memo<T>, N: NodeStore, L: Ledger>(
     full: &mut Option<Share>,
     memo: &mut M,
     steps: &mut Steps<L>,
-) -> Result<Option<Share>, Full>
+) -> Result<WalkedBlock, Full>
     requires level { (level ≤ 10) × (level + 2 ≤ (N.seen store.old).plan.side) }
     requires task { CanBuild T.makes level task.now
         (walk_at (N.seen store.old) full.old (M.has memo.old)) }
     requires room { number_of_trees (N.seen store.old).held + 9 * level ≤ 4000 }
     requires mixed { 1 ≤ level
         → 1 + sum_below 8 (T.mixed_in level task.now) ≤ T.mixed level task.now }
-    ensures walked { WalksBlock T.makes level task.now
+    ensures walked { FindsBlock T.makes level task.now
         (walk_at (N.seen store.old) full.old (M.has memo.old)) result
         (walk_at (N.seen store.new) full.new (M.has memo.new)) }
     ensures rests { N.rests store.old store.new }
-    ensures took { OnOk result (TookTurns 1 (level + 1) (T.mixed level task.now) full.old full.new
-        steps.old steps.new) }
+    ensures took { FoundTurns (level + 1) (T.mixed level task.now) result full.old full.new
+        steps.old steps.new }
 {
+    let old = task.old();
     if level == 0 {
         let bits = task.bits(store);
-        return match leaf(store, bits, steps) {
-            Ok(share) => Ok(share),
-            Err(e) => Err(e),
-        };
+        return leaf_or_old(store, old, bits, steps);
     }
     let mut children: [Option<Share>; 8] = [None, None, None, None, None, None, None, None];
-    match gather(store, level, task, &mut children, full, memo, steps) {
-        Ok(()) => match join(store, level, children, steps) {
-            Ok(share) => Ok(share),
-            Err(e) => Err(e),
-        },
+    let mut standing: [Option<Name>; 8] = [None; 8];
+    match gather(
+        store,
+        level,
+        task,
+        &mut children,
+        &mut standing,
+        full,
+        memo,
+        steps,
+    ) {
+        Ok(()) => node_or_old(store, level, old, children, &standing, steps),
         Err(e) => {
             end_all(children);
             Err(e)
@@ -139,46 +170,49 @@ fn known<N: NodeStore, L: Ledger>(
     whole: Whole,
     full: &mut Option<Share>,
     steps: &mut Steps<L>,
-) -> Result<Option<Share>, Full>
+) -> Result<WalkedBlock, Full>
     requires level { level + 2 ≤ (N.seen store.old).plan.side }
     requires known { CanBeWhole level whole (N.seen store.old) full.old }
     requires whole { whole ≢ Whole.Mixed }
     requires room { number_of_trees (N.seen store.old).held ≤ 4000 }
     ensures came { ForWhole level whole (N.seen store.old) full.old
-        (λ rest target. BlockCame rest level target result (N.seen store.old) (N.seen store.new)
+        (λ rest target. WholeFound rest level target result (N.seen store.old) (N.seen store.new)
         full.new) }
     ensures rests { N.rests store.old store.new }
-    ensures took { OnOk result (TookTurns 1 (level + 1) 0 full.old full.new steps.old steps.new) }
+    ensures took { FoundTurns (level + 1) 0 result full.old full.new steps.old steps.new }
 {
     match whole {
-        Whole::Nothing | Whole::Mixed => Ok(None),
-        Whole::Old(n) => Ok(Some(store.keep_at(n, steps))),
+        Whole::Nothing | Whole::Mixed => Ok(WalkedBlock::Stands(None)),
+        Whole::Old(n) => Ok(WalkedBlock::Stands(Some(n))),
         Whole::All => match full_block(store, level, full, steps) {
-            Ok(share) => Ok(share),
+            Ok(share) => Ok(WalkedBlock::Made(share)),
             Err(e) => Err(e),
         },
     }
 }
 
-// Fills in shares of the octants of the block that the task makes.
+// Fills in what the octants are of the block that the task makes: shares that came, and names of
+// those that stand.
 #[cycle(walk)]
 fn gather<T: Task, M: Memo<T>, N: NodeStore, L: Ledger>(
     store: &mut N,
     level: u8,
     task: &T,
     children: &mut [Option<Share>; 8],
+    standing: &mut [Option<Name>; 8],
     full: &mut Option<Share>,
     memo: &mut M,
     steps: &mut Steps<L>,
 ) -> Result<(), Full>
     requires above { 1 ≤ level }
     requires empty { children.old ≡ replicate 8 None }
+    requires unnamed { standing.old ≡ replicate 8 None }
     requires level { (level ≤ 10) × (level + 2 ≤ (N.seen store.old).plan.side) }
     requires task { CanBuild T.makes level task.now
         (walk_at (N.seen store.old) full.old (M.has memo.old)) }
     requires room { number_of_trees (N.seen store.old).held + 9 * level ≤ 4000 }
     ensures walked { WalksOctants T.makes level task.now
-        (walk_at (N.seen store.old) full.old (M.has memo.old)) children.new result
+        (walk_at (N.seen store.old) full.old (M.has memo.old)) children.new standing.new result
         (walk_at (N.seen store.new) full.new (M.has memo.new)) }
     ensures none { OnErr result ((k : ℕ) → k < 8 → name_in children.new k ≡ None) }
     ensures rests { N.rests store.old store.new }
@@ -186,8 +220,10 @@ fn gather<T: Task, M: Memo<T>, N: NodeStore, L: Ledger>(
         full.new steps.old steps.new) }
 {
     for k in 0..8usize {
-        match octant(store, level, task, k as u8, children, full, memo, steps) {
-            Ok(share) => put(children, k, share),
+        match octant(
+            store, level, task, k as u8, children, standing, full, memo, steps,
+        ) {
+            Ok(block) => lay(children, standing, k, block),
             Err(e) => {
                 back_all(store, taken(children), steps);
                 return Err(e);
@@ -205,7 +241,7 @@ fn taken(children: &mut [Option<Share>; 8]) -> [Option<Share>; 8]
     std::mem::replace(children, [None, None, None, None, None, None, None, None])
 }
 
-// A share of octant k of the block that the task makes, those before it being in hand.
+// Octant k of the block that the task makes, those before it being found.
 #[cycle(walk)]
 fn octant<T: Task, M: Memo<T>, N: NodeStore, L: Ledger>(
     store: &mut N,
@@ -213,28 +249,29 @@ fn octant<T: Task, M: Memo<T>, N: NodeStore, L: Ledger>(
     task: &T,
     k: u8,
     children: &[Option<Share>; 8],
+    standing: &[Option<Name>; 8],
     full: &mut Option<Share>,
     memo: &mut M,
     steps: &mut Steps<L>,
-) -> Result<Option<Share>, Full>
+) -> Result<WalkedBlock, Full>
     requires above { 1 ≤ level }
     requires level { (level ≤ 10) × (level + 2 ≤ (N.seen store.old).plan.side) }
     requires octant { k < 8 }
-    requires task { CanGoOn T.makes level task.now children.now k
+    requires task { CanGoOn T.makes level task.now children.now standing.now k
         (walk_at (N.seen store.old) full.old (M.has memo.old)) }
     requires room { number_of_trees (N.seen store.old).held + 9 * (level - 1) ≤ 4000 }
-    ensures walked { ForOctant T.makes level task.now children.now k
+    ensures walked { ForOctant T.makes level task.now children.now standing.now k
         (walk_at (N.seen store.old) full.old (M.has memo.old))
-        (λ base rest target. WalkCame T.makes base rest (level - 1) target result
+        (λ base rest target. BlockFound T.makes base rest (level - 1) target result
         (walk_at (N.seen store.old) full.old (M.has memo.old))
         (walk_at (N.seen store.new) full.new (M.has memo.new))) }
     ensures rests { N.rests store.old store.new }
-    ensures took { OnOk result (TookTurns 1 level (T.mixed_in level task.now k) full.old full.new
-        steps.old steps.new) }
+    ensures took { FoundTurns level (T.mixed_in level task.now k) result full.old full.new
+        steps.old steps.new }
 {
     let part = task.octant(store, level, k);
     match build(store, level - 1, &part, full, memo, steps) {
-        Ok(share) => Ok(share),
+        Ok(block) => Ok(block),
         Err(e) => Err(e),
     }
 }
@@ -265,7 +302,7 @@ pub fn rebuild<T: Task, M: Memo<T>, N: NodeStore, L: Ledger>(
 {
     let _held = store.held();
     let mut full: Option<Share> = None;
-    match build(store, level, task, &mut full, memo, steps) {
+    match share_of(store, level, task, &mut full, memo, steps) {
         Ok(share) => {
             back_if(store, full, steps);
             Ok(share)

@@ -12,15 +12,15 @@ use Rattle.vw_cell.specs.Counts.{cell_at}
 use Rattle.vw_cell.specs.Places.{block_side, half_x, half_y, half_z, IsWithin, IsInBlock, Touches, octant_of}
 use Rattle.node_words.specs.declared.shapes.names.Name.{Name}
 use Rattle.vw_cell.specs.declared.directions.Direction.{Direction}
-use Rattle.vw_cell.specs.Faces.{is_bare}
+use Rattle.vw_cell.specs.Faces.{is_exposed}
 use Rattle.node_words.specs.shapes.Shape.{bit_number}
 use Rattle.node_words.specs.shapes.Tree.{Tree, shape_of}
 use Rattle.node_words.specs.kernels.Leaves.{LeafShows}
-use Rattle.node_words.specs.Held.{Seen}
+use Rattle.node_words.specs.Held.{StoreState}
 use Rattle.node_words.specs.descent.Roots.{ForBlock, cells_of}
 use Rattle.node_words.specs.descent.Parts.{EndsBy}
-use Rattle.measure.specs.Bare.{PassesBare}
-use Rattle.measure.specs.Leaves.{TellsCells}
+use Rattle.measure.specs.Exposed.{PassesExposed}
+use Rattle.measure.specs.Leaves.{BitsPassTest}
 use Rattle.measure.specs.Subjects.{PassesSet}
 use Rattle.measure.specs.Tallies.{Counting, in_octant, PassesNone}
 use Rattle.measure.specs.Widening.{ForCounted, ShowsPassed}
@@ -179,7 +179,7 @@ one_number b layer m i place e corner some inside =
 pub leaf_fills : {S : Type 0} (counts : Counting S) (held : List Tree) (subject : S)
     (place : Block) (b : Boxed) (layer m bits : ℕ) (words : List ℕ) → place.level ≡ 0
     → IsSmallLayer b → m < length words → leaf_corner b layer m ≡ place.at
-    → ((test : Cell → Bool) → counts held 0 subject test → TellsCells bits test)
+    → ((test : Cell → Bool) → counts held 0 subject test → BitsPassTest bits test)
     → ForCounted counts held subject place
     (λ cells. Fills (LiesAmong b layer place) b layer cells words (slice_set words m bits))
 leaf_fills counts held subject place b layer m bits words e small inside corner told cells test p shows =
@@ -252,7 +252,7 @@ misses_fills place b layer cells words small corner not =
     fills_none _ b layer cells words
     (λ f m lt i. absurd (not (among_meets place b layer m small corner lt i)))
 
-pub octant_fills : {S : Type 0} (counts : Counting S) (a b : Seen) (subject child : S)
+pub octant_fills : {S : Type 0} (counts : Counting S) (a b : StoreState) (subject child : S)
     (place inner : Block) (k : ℕ) (box : Boxed) (layer : ℕ) (old new : List ℕ) → b ≡ a
     → 1 ≤ place.level → k < 8 → inner ≡ octant_of place k
     → ((u : Cell → Bool) → counts a.held place.level subject u
@@ -329,13 +329,13 @@ layer_filled held level layer z block b old new small ends lt e none fills t o =
 pub bare_filled : (d : Direction) (held : List Tree) (level layer z : ℕ) (block : Option Name)
     (b : Boxed) (old new : List ℕ) → IsSmallLayer b → EndsBy (block_side level) b → z < b.size.z
     → layer ≡ (b.at.z + z) / 4 → ((m : ℕ) → m < leaves_in b → slice_index old m ≡ 0)
-    → ((cells test : Cell → Bool) → PassesBare d held level block None test
+    → ((cells test : Cell → Bool) → PassesExposed d held level block None test
     → ShowsPassed (record { level = level; at = cell_at 0 0 0 }) test cells
     → Fills (LiesAmong b layer (record { level = level; at = cell_at 0 0 0 })) b layer cells old new)
     → ForBlock held level block
-    (λ s. HoldsLayer new b layer (leaves_in b) (is_bare d (block_side level) (cells_of level s)))
+    (λ s. HoldsLayer new b layer (leaves_in b) (is_exposed d (block_side level) (cells_of level s)))
 bare_filled d held level layer z block b old new small ends lt e none fills t o =
-    let cells : Cell → Bool = is_bare d (block_side level) (cells_of level (shape_of t)) in
+    let cells : Cell → Bool = is_exposed d (block_side level) (cells_of level (shape_of t)) in
     root_filled level layer z b cells old new small ends lt e none
     (fills cells cells (world_bare d held level block t o) (shown_root level cells))
 

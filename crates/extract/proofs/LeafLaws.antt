@@ -12,7 +12,7 @@ use Rattle.vox_read.specs.declared.voxels.Voxel.{Voxel}
 use Rattle.node_words.specs.declared.shapes.names.Name.{Name}
 use Rattle.node_words.specs.shapes.Tree.{shape_of}
 use Rattle.node_words.specs.kernels.Leaves.{LeafShows}
-use Rattle.node_words.specs.Held.{Seen}
+use Rattle.node_words.specs.Held.{StoreState}
 use Rattle.node_words.specs.descent.Roots.{IsBlockOf, HasBlock, HoldsRoot, ForBlock, ForWorld, cells_of}
 use Rattle.node_words.specs.descent.Parts.{EndsBy}
 use Rattle.node_words.proofs.OfDescent.BlockLaws.{root_block}
@@ -139,7 +139,7 @@ small_box side b h fits x y z =
       z = (fits.z.0, z, omega (arith, fits.z.1));
     }
 
-pub root_there : (a b : Seen) (side level : ℕ) (root name : Option Name) → b ≡ a → level ≡ side - 2
+pub root_there : (a b : StoreState) (side level : ℕ) (root name : Option Name) → b ≡ a → level ≡ side - 2
     → name ≡ root → HoldsRoot a.held side root → HasBlock b.held level name
 root_there a b side level root name e f n h =
     let block = root_block a.held side root h in
@@ -148,7 +148,7 @@ root_there a b side level root name e f n h =
     (subst (λ (l : ℕ). IsBlockOf a.held l root block.tree) (sym f) block.is_block) in
     record { tree = block.tree; is_block = block_still a b level name block.tree e there }
 
-pub world_room : {Z : Type 0} (a b : Seen) (side level : ℕ) (root name : Option Name) (box : Boxed)
+pub world_room : {Z : Type 0} (a b : StoreState) (side level : ℕ) (root name : Option Name) (box : Boxed)
     (number : ℕ) (v : Vec Voxel Z) → b ≡ a → level ≡ side - 2 → name ≡ root
     → ForWorld a.held side root (λ cells. number ≡ number_in box cells) → HasRoom v number
     → ForBlock b.held level name (λ s. HasRoom v (length (voxels_of_box box (cells_of level s))))

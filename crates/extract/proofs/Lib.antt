@@ -1,5 +1,6 @@
 pub mod ListingLaws
 pub mod LeafLaws
 mod FillLaws
+mod SideLaws
 pub mod SavedLaws
 mod SurfaceLaws

@@ -6,7 +6,7 @@ use Rattle.vw_cell.specs.declared.boxes.Boxed.{Boxed}
 use Rattle.vw_cell.specs.Counts.{cell_at, number_in, number_below-le}
 use Rattle.vw_cell.specs.Places.{IsInWorld, FitsAt}
 use Rattle.vox_read.specs.declared.voxels.Voxel.{Voxel}
-use Rattle.vox_read.specs.Contents.{IsSize, StandsInside}
+use Rattle.vox_read.specs.Contents.{IsSize, IsInsideModel}
 use Rattle.vox_write.specs.Written.{model_file}
 use Rattle.node_words.specs.declared.shapes.names.Name.{Name}
 use Rattle.node_words.specs.shapes.Tree.{Tree, shape_of}
@@ -33,18 +33,18 @@ joined_all P (suc n) f each =
     (each n (omega arith))
 
 voxel_inside : (size : Cell) (set : Bool) (x y z : ℕ) → x < size.x → y < size.y → z < size.z
-    → All (StandsInside size) (voxel_if set x y z)
+    → All (IsInsideModel size) (voxel_if set x y z)
 voxel_inside size true x y z a b c =
-    All-cons (StandsInside size) (record { x = x; y = y; z = z; colour = 1 }) []
-    (record { x = a; y = b; z = c }) (All-nil (StandsInside size))
-voxel_inside size false x y z a b c = All-nil (StandsInside size)
+    All-cons (IsInsideModel size) (record { x = x; y = y; z = z; colour = 1 }) []
+    (record { x = a; y = b; z = c }) (All-nil (IsInsideModel size))
+voxel_inside size false x y z a b c = All-nil (IsInsideModel size)
 
 pub voxels_inside : (b : Boxed) (cells : Cell → Bool)
-    → All (StandsInside b.size) (voxels_of_box b cells)
+    → All (IsInsideModel b.size) (voxels_of_box b cells)
 voxels_inside b cells =
-    joined_all (StandsInside b.size) b.size.z (box_layer cells b)
-    (λ z of_z. joined_all (StandsInside b.size) b.size.y (λ y. box_row cells b z y b.size.x)
-    (λ y of_y. joined_all (StandsInside b.size) b.size.x _
+    joined_all (IsInsideModel b.size) b.size.z (box_layer cells b)
+    (λ z of_z. joined_all (IsInsideModel b.size) b.size.y (λ y. box_row cells b z y b.size.x)
+    (λ y of_y. joined_all (IsInsideModel b.size) b.size.x _
     (λ x of_x. voxel_inside b.size (cells (cell_at (b.at.x + x) (b.at.y + y) (b.at.z + z)))
     (0 + x) y z (omega arith) of_y of_z)))
 
@@ -73,10 +73,10 @@ few_voxels b cells small =
 
 module _ (held : List Tree) (side : ℕ) (root : Option Name) (b : Boxed) (voxels : List Voxel)
     (told : ForWorld held side root (λ cells. voxels ≡ [] ++ voxels_of_box b cells)) where
-  pub told_inside : HoldsRoot held side root → All (StandsInside b.size) voxels
+  pub told_inside : HoldsRoot held side root → All (IsInsideModel b.size) voxels
   told_inside holds =
       let block = root_block held side root holds in
-      subst (λ (vs : List Voxel). All (StandsInside b.size) vs)
+      subst (λ (vs : List Voxel). All (IsInsideModel b.size) vs)
       (sym (told block.tree block.is_block))
       (voxels_inside b (cells_of (side - 2) (shape_of block.tree)))
 

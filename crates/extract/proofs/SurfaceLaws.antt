@@ -11,7 +11,7 @@ use Rattle.vw_cell.specs.declared.cells.Cell.{Cell}
 use Rattle.vw_cell.specs.declared.boxes.Boxed.{Boxed}
 use Rattle.vw_cell.specs.declared.directions.Direction.TheVariants.{LowX, HighX, LowY, HighY, LowZ, HighZ}
 use Rattle.vw_cell.specs.Counts.{cell_at}
-use Rattle.vw_cell.specs.Faces.{is_bare}
+use Rattle.vw_cell.specs.Faces.{is_exposed}
 use Rattle.vw_cell.specs.Places.{block_side}
 use Rattle.vox_read.specs.declared.voxels.Voxel.{Voxel}
 use Rattle.node_words.specs.Sums.{sum_below, sum_below-le}
@@ -82,12 +82,12 @@ run_is_surface words b z y p n m side cells small ly fits near is inside some he
     joined-same n _ _ (λ i lt.
     ap (λ (s : ℕ). voxel_of_sides s (p + i) y z)
     (sides_same _ _ _ _ _ _ _ _ _ _ _ _
-    (shows words.low_x (is_bare LowX side cells) held.low_x i lt)
-    (shows words.high_x (is_bare HighX side cells) held.high_x i lt)
-    (shows words.low_y (is_bare LowY side cells) held.low_y i lt)
-    (shows words.high_y (is_bare HighY side cells) held.high_y i lt)
-    (shows words.low_z (is_bare LowZ side cells) held.low_z i lt)
-    (shows words.high_z (is_bare HighZ side cells) held.high_z i lt)))
+    (shows words.low_x (is_exposed LowX side cells) held.low_x i lt)
+    (shows words.high_x (is_exposed HighX side cells) held.high_x i lt)
+    (shows words.low_y (is_exposed LowY side cells) held.low_y i lt)
+    (shows words.high_y (is_exposed HighY side cells) held.high_y i lt)
+    (shows words.low_z (is_exposed LowZ side cells) held.low_z i lt)
+    (shows words.high_z (is_exposed HighZ side cells) held.high_z i lt)))
 
 -- the bare sides of a cell of a row are those that its leaf tells
 cell_is_told : (words : BareLayer) (b : Boxed) (z y p m side : ℕ) (cells : Cell → Bool)
@@ -103,12 +103,12 @@ cell_is_told words b z y p m side cells small ly lp is inside held =
     (h : HoldsLayer ws b ((b.at.z + z) / 4) (leaves_in b) test).
     cell_shows ws b z y p m test small ly lp is inside h in
     sides_same _ _ _ _ _ _ _ _ _ _ _ _
-    (shows words.low_x (is_bare LowX side cells) held.low_x)
-    (shows words.high_x (is_bare HighX side cells) held.high_x)
-    (shows words.low_y (is_bare LowY side cells) held.low_y)
-    (shows words.high_y (is_bare HighY side cells) held.high_y)
-    (shows words.low_z (is_bare LowZ side cells) held.low_z)
-    (shows words.high_z (is_bare HighZ side cells) held.high_z)
+    (shows words.low_x (is_exposed LowX side cells) held.low_x)
+    (shows words.high_x (is_exposed HighX side cells) held.high_x)
+    (shows words.low_y (is_exposed LowY side cells) held.low_y)
+    (shows words.high_y (is_exposed HighY side cells) held.high_y)
+    (shows words.low_z (is_exposed LowZ side cells) held.low_z)
+    (shows words.high_z (is_exposed HighZ side cells) held.high_z)
 
 -- cells of leaves without a bare side
 pub blank_part : (slab : Slab) (b : Boxed) (z y p n m row side : ℕ) (cells : Cell → Bool)

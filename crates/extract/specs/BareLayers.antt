@@ -4,7 +4,7 @@ use Rattle.vw_cell.specs.declared.cells.Cell.{Cell}
 use Rattle.vw_cell.specs.declared.boxes.Boxed.{Boxed}
 use Rattle.vw_cell.specs.declared.directions.Direction.TheVariants.{LowX, HighX, LowY, HighY, LowZ, HighZ}
 use Rattle.vw_cell.specs.Counts.{cell_at}
-use Rattle.vw_cell.specs.Faces.{is_bare}
+use Rattle.vw_cell.specs.Faces.{is_exposed}
 use Rattle.vox_read.specs.declared.voxels.Voxel.{Voxel}
 use Rattle.extract.specs.Layers.{HoldsLayer, bits_show, leaves_in}
 use Rattle.extract.specs.Listing.{voxels_joined}
@@ -16,12 +16,12 @@ use Rattle.extract.specs.declared.bare_layers.Slab.{Slab}
 -- the words show which cells of a layer's leaves are bare, of a world of this side
 pub record HoldsBare (words : BareLayer) (b : Boxed) (layer side : ℕ)
     (cells : Cell → Bool) : Type 0 where
-  pub low_x : HoldsLayer words.low_x b layer (leaves_in b) (is_bare LowX side cells)
-  pub high_x : HoldsLayer words.high_x b layer (leaves_in b) (is_bare HighX side cells)
-  pub low_y : HoldsLayer words.low_y b layer (leaves_in b) (is_bare LowY side cells)
-  pub high_y : HoldsLayer words.high_y b layer (leaves_in b) (is_bare HighY side cells)
-  pub low_z : HoldsLayer words.low_z b layer (leaves_in b) (is_bare LowZ side cells)
-  pub high_z : HoldsLayer words.high_z b layer (leaves_in b) (is_bare HighZ side cells)
+  pub low_x : HoldsLayer words.low_x b layer (leaves_in b) (is_exposed LowX side cells)
+  pub high_x : HoldsLayer words.high_x b layer (leaves_in b) (is_exposed HighX side cells)
+  pub low_y : HoldsLayer words.low_y b layer (leaves_in b) (is_exposed LowY side cells)
+  pub high_y : HoldsLayer words.high_y b layer (leaves_in b) (is_exposed HighY side cells)
+  pub low_z : HoldsLayer words.low_z b layer (leaves_in b) (is_exposed LowZ side cells)
+  pub high_z : HoldsLayer words.high_z b layer (leaves_in b) (is_exposed HighZ side cells)
 
 -- the words of the m-th leaf
 abbrev pub leaf_at : BareLayer → ℕ → BareLeaf

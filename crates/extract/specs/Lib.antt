@@ -4,3 +4,4 @@ pub mod Filling
 pub mod Saved
 pub mod Surface
 pub mod BareLayers
+pub mod Sides

@@ -5,7 +5,7 @@ use Rattle.vw_cell.specs.declared.boxes.Boxed.{Boxed}
 use Rattle.vw_cell.specs.declared.directions.Direction.TheVariants.{LowX, HighX, LowY, HighY, LowZ, HighZ}
 use Rattle.vw_cell.specs.Sums.{one_if}
 use Rattle.vw_cell.specs.Counts.{cell_at}
-use Rattle.vw_cell.specs.Faces.{is_bare}
+use Rattle.vw_cell.specs.Faces.{is_exposed}
 use Rattle.vox_read.specs.declared.voxels.Voxel.{Voxel}
 use Rattle.extract.specs.Listing.{voxels_joined}
 
@@ -17,9 +17,9 @@ sides_number a b c d e f =
 -- which sides of a cell are bare: bits 0 to 5 are those of -x, +x, -y, +y, -z and +z
 abbrev pub bare_sides_of : ℕ → (Cell → Bool) → Cell → ℕ
 bare_sides_of side cells c =
-    sides_number (is_bare LowX side cells c) (is_bare HighX side cells c)
-    (is_bare LowY side cells c) (is_bare HighY side cells c) (is_bare LowZ side cells c)
-    (is_bare HighZ side cells c)
+    sides_number (is_exposed LowX side cells c) (is_exposed HighX side cells c)
+    (is_exposed LowY side cells c) (is_exposed HighY side cells c) (is_exposed LowZ side cells c)
+    (is_exposed HighZ side cells c)
 
 -- a voxel with a cell's bare sides in the place of its colour, and none where no side is bare
 abbrev pub voxel_of_sides : ℕ → ℕ → ℕ → ℕ → List Voxel

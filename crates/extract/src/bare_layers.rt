@@ -1,18 +1,21 @@
-ghost use Rattle.std.specs.Prelude.{◌≡◌, ℕ, ◌+◌, ◌*◌, ◌/◌, ◌<◌, ◌≤◌, slice_index};
+ghost use Rattle.std.specs.Prelude.{◌≡◌, ℕ, ◌+◌, ◌*◌, ◌/◌, ◌<◌, ◌≤◌, length, slice_index, slice_set};
 ghost use Rattle.vw_cell.specs.Places.{block_side, IsInWorld};
-ghost use Rattle.vw_cell.specs.Faces.{is_bare};
+ghost use Rattle.vw_cell.specs.declared.directions.Direction.{Direction};
 ghost use Rattle.node_words.specs.descent.Answers.{AreRight};
 ghost use Rattle.node_words.specs.descent.Parts.{EndsBy};
 ghost use Rattle.node_words.specs.descent.Roots.{HasBlock, ForBlock, cells_of};
-ghost use Rattle.measure.specs.Faces.{passes_bare};
+ghost use Rattle.measure.specs.Faces.{passes_exposed};
 ghost use Rattle.measure.specs.Tallies.{IsWholeTally};
-ghost use Rattle.extract.specs.Layers.{HoldsLayer, IsSmallLayer, leaves_in};
+ghost use Rattle.extract.specs.Layers.{IsSmallLayer, leaves_in};
+ghost use Rattle.extract.specs.Sides.{leaf_towards, words_towards};
 ghost use Rattle.extract.specs.BareLayers.{HoldsBare, HoldsSlab, CountsBlank, IsAny, IsBlank, leaf_at, leaf_sides};
 
-use crate::leaves::{gather_bare, leaves_of};
-use measure::{Bare, WholeBlock};
+use crate::leaves::{clear, leaves_of};
+use crate::side_walks::fill_sides;
+use crate::surrounded::Surrounded;
+use measure::{ExposedSides, WholeBlock};
 use node_words::{Answers, Blocks, Name, leaf_has};
-use vw_cell::{Boxed, Cell, Direction};
+use vw_cell::{Block, Boxed, Cell};
 
 /// The leaves of a layer of a box, row by row, by the cells that are bare towards each direction.
 #[derive(Drop)]
@@ -28,12 +31,12 @@ pub(crate) struct BareLayer {
 /// One of these leaves.
 #[derive(Clone, Copy)]
 pub(crate) struct BareLeaf {
-    low_x: u64,
-    high_x: u64,
-    low_y: u64,
-    high_y: u64,
-    low_z: u64,
-    high_z: u64,
+    pub(crate) low_x: u64,
+    pub(crate) high_x: u64,
+    pub(crate) low_y: u64,
+    pub(crate) high_y: u64,
+    pub(crate) low_z: u64,
+    pub(crate) high_z: u64,
 }
 
 /// The leaves of a layer, and how many from each on have no cell with a bare side.
@@ -63,7 +66,7 @@ impl Slab {
 /// Reads the layer of a box that has its z-th layer of cells.
 pub(crate) fn gather_slab<B: Blocks>(
     store: &mut B,
-    wholes: &mut Answers<WholeBlock<Bare>>,
+    wholes: &mut Answers<WholeBlock<ExposedSides>>,
     level: u8,
     block: Option<Name>,
     b: Boxed,
@@ -76,12 +79,12 @@ pub(crate) fn gather_slab<B: Blocks>(
     requires ends { EndsBy (block_side level) b }
     requires z { z < b.size.z }
     requires wholes { AreRight
-        (IsWholeTally passes_bare) (B.seen store.old).held wholes.old.places }
+        (IsWholeTally passes_exposed) (B.seen store.old).held wholes.old.places }
     ensures layer { ForBlock (B.seen store.old).held level block
         (λ s. HoldsSlab slab.new b ((b.at.z + z) / 4) (block_side level) (cells_of level s)) }
     ensures block { HasBlock (B.seen store.new).held level block }
     ensures wholes { AreRight
-        (IsWholeTally passes_bare) (B.seen store.old).held wholes.new.places }
+        (IsWholeTally passes_exposed) (B.seen store.old).held wholes.new.places }
     ensures seen { B.seen store.new ≡ B.seen store.old }
     ensures rests { B.rests store.old store.new }
 {
@@ -118,7 +121,7 @@ fn blank_run(leaf: BareLeaf, behind: u8) -> u8
 // Reads the words of the layer of a box that has its z-th layer of cells.
 fn gather_sides<B: Blocks>(
     store: &mut B,
-    wholes: &mut Answers<WholeBlock<Bare>>,
+    wholes: &mut Answers<WholeBlock<ExposedSides>>,
     level: u8,
     block: Option<Name>,
     b: Boxed,
@@ -131,75 +134,52 @@ fn gather_sides<B: Blocks>(
     requires ends { EndsBy (block_side level) b }
     requires z { z < b.size.z }
     requires wholes { AreRight
-        (IsWholeTally passes_bare) (B.seen store.old).held wholes.old.places }
+        (IsWholeTally passes_exposed) (B.seen store.old).held wholes.old.places }
     ensures layer { ForBlock (B.seen store.old).held level block
         (λ s. HoldsBare words.new b ((b.at.z + z) / 4) (block_side level) (cells_of level s)) }
     ensures block { HasBlock (B.seen store.new).held level block }
     ensures wholes { AreRight
-        (IsWholeTally passes_bare) (B.seen store.old).held wholes.new.places }
+        (IsWholeTally passes_exposed) (B.seen store.old).held wholes.new.places }
     ensures seen { B.seen store.new ≡ B.seen store.old }
     ensures rests { B.rests store.old store.new }
 {
-    gather_bare(
-        store,
-        wholes,
-        Direction::LowX,
-        level,
-        block,
-        b,
-        z,
-        &mut words.low_x,
-    );
-    gather_bare(
-        store,
-        wholes,
-        Direction::HighX,
-        level,
-        block,
-        b,
-        z,
-        &mut words.high_x,
-    );
-    gather_bare(
-        store,
-        wholes,
-        Direction::LowY,
-        level,
-        block,
-        b,
-        z,
-        &mut words.low_y,
-    );
-    gather_bare(
-        store,
-        wholes,
-        Direction::HighY,
-        level,
-        block,
-        b,
-        z,
-        &mut words.high_y,
-    );
-    gather_bare(
-        store,
-        wholes,
-        Direction::LowZ,
-        level,
-        block,
-        b,
-        z,
-        &mut words.low_z,
-    );
-    gather_bare(
-        store,
-        wholes,
-        Direction::HighZ,
-        level,
-        block,
-        b,
-        z,
-        &mut words.high_z,
-    );
+    clear_words(words, b);
+    let at = Cell { x: 0, y: 0, z: 0 };
+    let place = Block { level, at };
+    let subject = Surrounded::world(block);
+    fill_sides(store, wholes, &subject, place, b, (b.at.z + z) / 4, words);
+}
+
+// Makes the words of a layer of the box 0.
+fn clear_words(words: &mut BareLayer, b: Boxed)
+    requires b { IsSmallLayer b }
+    ensures zeros { (d : Direction) (m : ℕ) → m < leaves_in b
+        → slice_index (words_towards words.new d) m ≡ 0 }
+{
+    clear(&mut words.low_x, b);
+    clear(&mut words.high_x, b);
+    clear(&mut words.low_y, b);
+    clear(&mut words.high_y, b);
+    clear(&mut words.low_z, b);
+    clear(&mut words.high_z, b);
+}
+
+impl BareLayer {
+    /// Puts the words of a leaf in their places.
+    #[inline(always)]
+    pub(crate) fn put(&mut self, m: usize, leaf: BareLeaf)
+        requires { m < 4225 }
+        ensures put { (d : Direction) → words_towards self.new d
+            ≡ slice_set (words_towards self.old d) m (leaf_towards leaf d) }
+        ensures places { (d : Direction) → m < length (words_towards self.old d) }
+    {
+        self.low_x[m] = leaf.low_x;
+        self.high_x[m] = leaf.high_x;
+        self.low_y[m] = leaf.low_y;
+        self.high_y[m] = leaf.high_y;
+        self.low_z[m] = leaf.low_z;
+        self.high_z[m] = leaf.high_z;
+    }
 }
 
 /// The words of one leaf.

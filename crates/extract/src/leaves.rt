@@ -1,19 +1,17 @@
 ghost use Rattle.std.specs.Prelude.{◌≡◌, ℕ, ◌+◌, ◌*◌, ◌<◌, ◌≤◌, ◌/◌, ◌↔◌, IsTrue, Bool, slice_index};
 ghost use Rattle.vw_cell.specs.declared.cells.Cell.{Cell};
-ghost use Rattle.vw_cell.specs.Faces.{is_bare};
 ghost use Rattle.vw_cell.specs.Places.{block_side, IsInBlock, LiesIn, octant_of};
 ghost use Rattle.node_words.specs.descent.Roots.{HasBlock, ForBlock, cells_of};
 ghost use Rattle.node_words.specs.descent.Parts.{EndsBy};
 ghost use Rattle.node_words.specs.descent.Answers.{AreRight};
-ghost use Rattle.measure.specs.Faces.{passes_bare};
 ghost use Rattle.measure.specs.Tallies.{IsWholeTally};
 ghost use Rattle.measure.specs.Widening.{ForCounted};
 ghost use Rattle.extract.specs.Layers.{HoldsLayer, IsLeafCorner, IsSmallLayer, leaf_corner, leaves_in};
 ghost use Rattle.extract.specs.Filling.{Fills, MeetsLayer};
 
-use measure::{Bare, SetCells, Subject, WholeBlock, passes_none};
+use measure::{SetCells, Subject, WholeBlock, passes_none};
 use node_words::{Answers, Blocks, Name};
-use vw_cell::{Block, Boxed, Cell, Direction};
+use vw_cell::{Block, Boxed, Cell};
 
 /// The leaves of the layer of a box that has its z-th layer of cells, row by row.
 pub fn gather<B: Blocks>(
@@ -50,47 +48,8 @@ pub fn gather<B: Blocks>(
     leaves
 }
 
-/// The same of the cells that are bare towards one direction, into words that are there. What is
-/// found of whole blocks is remembered for further calls.
-pub(crate) fn gather_bare<B: Blocks>(
-    store: &mut B,
-    wholes: &mut Answers<WholeBlock<Bare>>,
-    direction: Direction,
-    level: u8,
-    block: Option<Name>,
-    b: Boxed,
-    z: u16,
-    leaves: &mut [u64; 4225],
-)
-    requires level { level ≤ 10 }
-    requires block { HasBlock (B.seen store.old).held level block }
-    requires b { IsSmallLayer b }
-    requires ends { EndsBy (block_side level) b }
-    requires z { z < b.size.z }
-    requires wholes { AreRight
-        (IsWholeTally passes_bare) (B.seen store.old).held wholes.old.places }
-    ensures layer { ForBlock (B.seen store.old).held level block
-        (λ s. HoldsLayer leaves.new b ((b.at.z + z) / 4) (leaves_in b)
-        (is_bare direction (block_side level) (cells_of level s))) }
-    ensures block { HasBlock (B.seen store.new).held level block }
-    ensures wholes { AreRight
-        (IsWholeTally passes_bare) (B.seen store.old).held wholes.new.places }
-    ensures seen { B.seen store.new ≡ B.seen store.old }
-    ensures rests { B.rests store.old store.new }
-{
-    let at = Cell { x: 0, y: 0, z: 0 };
-    let place = Block { level, at };
-    let subject = Bare {
-        direction,
-        block,
-        beside: None,
-    };
-    clear(leaves, b);
-    fill(store, wholes, subject, place, b, (b.at.z + z) / 4, leaves);
-}
-
-// Makes the words of a layer of the box 0.
-fn clear(leaves: &mut [u64; 4225], b: Boxed)
+/// Makes the words of a layer of the box 0.
+pub(crate) fn clear(leaves: &mut [u64; 4225], b: Boxed)
     requires b { IsSmallLayer b }
     ensures zeros { (m : ℕ) → m < leaves_in b → slice_index leaves.new m ≡ 0 }
 {
@@ -231,9 +190,9 @@ fn fill_octant<S: Subject, B: Blocks>(
     fill(store, wholes, child, inner, b, layer, leaves);
 }
 
-// Whether a block has a leaf of a layer of the box.
+/// Whether a block has a leaf of a layer of the box.
 #[tactic(auto, using(node_words::proofs::OfDescent::LookLaws::whole_side))]
-fn meets(place: Block, b: Boxed, layer: u16) -> bool
+pub(crate) fn meets(place: Block, b: Boxed, layer: u16) -> bool
     requires level { place.level ≤ 10 }
     requires inside { LiesIn 4096 place }
     requires b { IsSmallLayer b }
@@ -249,8 +208,8 @@ fn meets(place: Block, b: Boxed, layer: u16) -> bool
         && 4 * layer < place.at.z + side
 }
 
-// The number of a leaf in its layer, row by row.
-fn number_at(place: Block, b: Boxed, layer: u16) -> usize
+/// The number of a leaf in its layer, row by row.
+pub(crate) fn number_at(place: Block, b: Boxed, layer: u16) -> usize
     requires level { place.level ≡ 0 }
     requires corner { IsLeafCorner place.at }
     requires b { IsSmallLayer b }

@@ -1,5 +1,5 @@
-//! The set cells of a box as a list of voxels, and as a VOX file, and what can be seen of a box, over
-//! any store that can be read.
+//! The set cells of a box as a list of voxels, and as a VOX file, and what can be seen of a box,
+//! over any store that can be read.
 //!
 //! It reads a store, and takes memory for the list and the file; no file is written here. A
 //! layer's leaves are gathered once for all its rows. The list, in order, is in
@@ -12,7 +12,9 @@ mod boxes;
 mod files;
 mod leaves;
 mod rows;
+mod side_walks;
 mod surfaces;
+mod surrounded;
 
 pub use boxes::cells_in;
 pub use files::box_file;

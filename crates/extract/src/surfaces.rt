@@ -4,7 +4,7 @@ ghost use Rattle.vw_cell.specs.Places.{FitsAt, IsInWorld, block_side};
 ghost use Rattle.node_words.specs.descent.Answers.{AreRight};
 ghost use Rattle.node_words.specs.descent.Parts.{EndsBy};
 ghost use Rattle.node_words.specs.descent.Roots.{HasBlock, HoldsRoot, ForBlock, ForWorld, cells_of};
-ghost use Rattle.measure.specs.Faces.{passes_bare};
+ghost use Rattle.measure.specs.Faces.{passes_exposed};
 ghost use Rattle.measure.specs.Tallies.{IsWholeTally};
 ghost use Rattle.extract.specs.Listing.{voxels_joined};
 ghost use Rattle.extract.specs.Layers.{IsRow, IsSmallLayer, HasRoom, AppendsVoxels, leaves_along, leaves_in};
@@ -13,7 +13,7 @@ ghost use Rattle.extract.specs.BareLayers.{HoldsSlab, IsAny, leaf_sides, part_of
 
 use crate::bare_layers::{BareLeaf, Slab, any_of, gather_slab, leaf_of, sides_at};
 use crate::rows::{row_start, run_length};
-use measure::{Bare, WholeBlock};
+use measure::{ExposedSides, WholeBlock};
 use node_words::{Answers, Blocks, Name, Share, leaf_has, name_of};
 use vox_read::Voxel;
 use vw_cell::{Boxed, Cell, Memory, Side};
@@ -83,7 +83,7 @@ fn slabs_in<B: Blocks>(
 // nothing is appended.
 fn slab_in<B: Blocks>(
     store: &mut B,
-    wholes: &mut Answers<WholeBlock<Bare>>,
+    wholes: &mut Answers<WholeBlock<ExposedSides>>,
     level: u8,
     block: Option<Name>,
     b: Boxed,
@@ -100,14 +100,14 @@ fn slab_in<B: Blocks>(
     requires z { z + n ≤ b.size.z }
     requires layer { (k : ℕ) → k < n → (b.at.z + (z + k)) / 4 ≡ (b.at.z + z) / 4 }
     requires wholes { AreRight
-        (IsWholeTally passes_bare) (B.seen store.old).held wholes.old.places }
+        (IsWholeTally passes_exposed) (B.seen store.old).held wholes.old.places }
     ensures voxels { IsTrue result → ForBlock (B.seen store.old).held level block
         (λ s. into.new.items ≡ into.old.items ++ voxels_joined n
         (λ k. layer_of_sides (bare_sides_of (block_side level) (cells_of level s)) b (z + k))) }
     ensures none { IsFalse result → into.new.items ≡ into.old.items }
     ensures block { HasBlock (B.seen store.new).held level block }
     ensures wholes { AreRight
-        (IsWholeTally passes_bare) (B.seen store.old).held wholes.new.places }
+        (IsWholeTally passes_exposed) (B.seen store.old).held wholes.new.places }
     ensures seen { B.seen store.new ≡ B.seen store.old }
     ensures rests { B.rests store.old store.new }
 {
@@ -210,7 +210,8 @@ fn step_in_room(
     requires few { leaves_in b ≤ 4225 }
     requires room { (side : ℕ) × (cells : Cell → Bool)
         × HoldsSlab slab.now b ((b.at.z + z) / 4) side cells
-        × HasRoom into.old (length (part_of_row (bare_sides_of side cells) b z y p (b.size.x - p))) }
+        × HasRoom into.old
+        (length (part_of_row (bare_sides_of side cells) b z y p (b.size.x - p))) }
     ensures some { 1 ≤ result }
     ensures within { p + result ≤ b.size.x }
     ensures appended { (side : ℕ) (cells : Cell → Bool)

@@ -22,7 +22,7 @@ use Rattle.node_words.proofs.OfShapes.WeightLaws.{weight_of-there}
 use Rattle.node_words.specs.declared.shares.Full.{Full}
 use Rattle.node_words.specs.Enough.{HasEnough}
 use Rattle.node_words.specs.Gathering.{Grew, unchanged, one, Fails}
-use Rattle.node_words.specs.Held.{Seen, Wanted}
+use Rattle.node_words.specs.Held.{StoreState, Wanted}
 use Rattle.node_words.specs.Plans.{Layout}
 use Rattle.node_words.proofs.HeldLaws.{held_reached}
 use Rattle.node_words.specs.descent.Roots.{IsBlockOf, HoldsRoot, ForWorld, cells_of}
@@ -112,7 +112,7 @@ empty_shown held level = record {
   };
 }
 
-root_tree : (old new : Seen) (level : ℕ) (name : Option Name) (world : World)
+root_tree : (old new : StoreState) (level : ℕ) (name : Option Name) (world : World)
     → (r : Rebuilt level world name old new) → IsBlockOf new.held level name r.tree
 root_tree old new level None world r =
     record { root = r.root; reached = λ n e. cc; of_level = λ n e. cc }
@@ -142,7 +142,7 @@ cells_shown : (level : ℕ) (s : Shape) (world : World) (c : Cell)
 cells_shown level s world c shows i =
     sym (ap (cells_of level s) (less_none c)) ∙ shows.each c i
 
-pub region_shown : (old new : Seen) (side : ℕ) (made name : Option Name) (d : Drawn) (b : Boxed)
+pub region_shown : (old new : StoreState) (side : ℕ) (made name : Option Name) (d : Drawn) (b : Boxed)
     (from : Cell) (number : ℕ) (file : List ℕ) → 2 ≤ side → FitsAt b.at b.size (2 ^ side)
     → ForEdited old side None (stamped d b.at) (λ w. Rebuilt (side - 2) w made old new)
     → name ≡ made → ForWorld new.held side name (FilesRegion b from number file)
@@ -157,7 +157,7 @@ region_shown old new side made name d b from number file low fits edited is foun
     (subst (λ (o : Option Name). ForWorld new.held side o (FilesRegion b from number file)) is found
     r.tree tree)
 
-pub made_held : (old new : Seen) (side : ℕ) (made name : Option Name) (d : Drawn) (at : Cell)
+pub made_held : (old new : StoreState) (side : ℕ) (made name : Option Name) (d : Drawn) (at : Cell)
     → ForEdited old side None (stamped d at) (λ w. Rebuilt (side - 2) w made old new)
     → name ≡ made → HoldsRoot new.held side name
 made_held old new side made name d at edited is =
@@ -212,7 +212,7 @@ pub no_trees : number_of_trees [] ≡ 0
 unfolding weigh
 no_trees = refl
 
-pub met_enough : (old new : Seen) (side : ℕ) (d : Drawn) (b : Boxed) (full : Full) → old.made ≡ []
+pub met_enough : (old new : StoreState) (side : ℕ) (d : Drawn) (b : Boxed) (full : Full) → old.made ≡ []
     → old.met ≡ []
     → ForEdited old side None (stamped d b.at)
     (λ w. Fails (world_shape (side - 2) w) full.level full.bucket old new)

@@ -11,7 +11,7 @@ use Rattle.std.proofs.lemmas.Nat.Bits.{bit_at-zero, bit_at_above}
 use Rattle.std.proofs.lemmas.List.Elements.{Contains-append_left, Contains-push, Contains-push_cases}
 use Rattle.vw_cell.specs.Sums.{sum_below, sum_below-change}
 use Rattle.vw_cell.specs.declared.cells.Cell.{Cell}
-use Rattle.flood.specs.Ways.{IsJoined, IsWay}
+use Rattle.flood.specs.Paths.{IsJoined, IsPath}
 use Rattle.flood.specs.Words.{bit_at_place, place_at_bit, IsSet, IsClearAt, IsTowards, IsClosedAt, Spreads, AreJoined, IsRegionOf, room, IsBeyond, ReachesWord, ReachesBeyond, Spills, Visits, Settles}
 use Rattle.flood.proofs.SpreadLaws.{left_bit, right_bit, both_bits, and_bits, either_bit, grows_more, bit_at_up, up_bit_at}
 use Rattle.flood.proofs.WayLaws.{joined_on, way_first, bit_of_place, clear_place, beside_towards, towards_beside, run_up, run_down}
@@ -474,7 +474,7 @@ first_joined clear n start words only = record {
 }
 
 closed_way : (clear words : List ℕ) (more : List Cell) (a q : Cell)
-    → ((u : ℕ) → u < length clear → IsClosedAt clear words u) → IsWay (IsClearAt clear) a more q
+    → ((u : ℕ) → u < length clear → IsClosedAt clear words u) → IsPath (IsClearAt clear) a more q
     → IsSet words (bit_at_place a) → IsSet words (bit_at_place q)
 closed_way clear words [] a q closed (first, same) set_a =
     subst (λ (p : Cell). IsSet words (bit_at_place p)) same set_a

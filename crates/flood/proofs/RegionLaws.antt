@@ -18,7 +18,7 @@ use Rattle.std.specs.Prelude.{Result, Ok, Err, OnOk}
 use Rattle.node_words.specs.declared.shapes.names.Name.{Name}
 use Rattle.node_words.specs.shapes.Tree.{Tree, shape_of}
 use Rattle.node_words.specs.descent.Roots.{IsBlockOf, ForBlock, ForWorld, cells_of}
-use Rattle.flood.specs.Ways.{AreBeside, on_x, on_y, on_z, IsJoined}
+use Rattle.flood.specs.Paths.{AreBeside, on_x, on_y, on_z, IsJoined}
 use Rattle.flood.specs.Words.{bit_at_place, place_at_bit, IsSet, IsClearAt, IsRegionOf}
 use Rattle.flood.proofs.WayLaws.{joined_ends, place_of_bit, same_place, joined_maps}
 use Rattle.flood.proofs.ReachLaws.{set_inside}

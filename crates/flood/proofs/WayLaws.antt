@@ -4,12 +4,12 @@ use Rattle.std.specs.Prelude.{map}
 use Rattle.std.proofs.lemmas.Nat.{mod_below}
 use Rattle.vw_cell.specs.declared.cells.Cell.{Cell}
 use Rattle.vw_cell.specs.Counts.{cell_at}
-use Rattle.flood.specs.Ways.{AreBeside, on_x, on_y, on_z, IsWay, IsJoined}
+use Rattle.flood.specs.Paths.{AreBeside, on_x, on_y, on_z, IsPath, IsJoined}
 use Rattle.flood.specs.Words.{bit_at_place, place_at_bit, IsSet, IsClearAt, IsTowards}
 
 -- one cell further
-way_on : (Open : Cell → Type 0) (more : List Cell) (a q r : Cell) → IsWay Open a more q
-    → AreBeside q r → Open r → IsWay Open a (more ++ r ∷ []) r
+way_on : (Open : Cell → Type 0) (more : List Cell) (a q r : Cell) → IsPath Open a more q
+    → AreBeside q r → Open r → IsPath Open a (more ++ r ∷ []) r
 way_on Open [] a q r (first, same) beside is_open =
     (first, subst (λ (c : Cell). AreBeside c r) (sym same) beside, (is_open, refl))
 way_on Open (b ∷ more) a q r (first, next, rest) beside is_open =
@@ -21,12 +21,12 @@ joined_on Open a q r j beside is_open =
     record { more = j.more ++ r ∷ []; way = way_on Open j.more a q r j.way beside is_open }
 
 -- a way begins with an open cell
-pub way_first : (Open : Cell → Type 0) (more : List Cell) (a q : Cell) → IsWay Open a more q
+pub way_first : (Open : Cell → Type 0) (more : List Cell) (a q : Cell) → IsPath Open a more q
     → Open a
 way_first Open [] a q w = w.0
 way_first Open (b ∷ more) a q w = w.0
 
-way_ends : (Open : Cell → Type 0) (more : List Cell) (a q : Cell) → IsWay Open a more q → Open q
+way_ends : (Open : Cell → Type 0) (more : List Cell) (a q : Cell) → IsPath Open a more q → Open q
 way_ends Open [] a q (first, same) = subst Open same first
 way_ends Open (b ∷ more) a q (first, next, rest) = way_ends Open more b q rest
 
@@ -109,7 +109,7 @@ run_down words start w m (suc n) lt set from =
 -- a way, place by place, in other cells
 pub way_maps : (P Q : Cell → Type 0) (f : Cell → Cell) → ((c : Cell) → P c → Q (f c))
     → ((a b : Cell) → P a → P b → AreBeside a b → AreBeside (f a) (f b))
-    → (more : List Cell) (a q : Cell) → IsWay P a more q → IsWay Q (f a) (map f more) (f q)
+    → (more : List Cell) (a q : Cell) → IsPath P a more q → IsPath Q (f a) (map f more) (f q)
 way_maps P Q f each next [] a q (first, same) = (each a first, ap f same)
 way_maps P Q f each next (b ∷ more) a q (first, beside, rest) = (
   each a first,

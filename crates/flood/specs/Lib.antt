@@ -1,4 +1,4 @@
-pub mod Ways
+pub mod Paths
 pub mod Words
 pub mod Regions
 pub mod Rows

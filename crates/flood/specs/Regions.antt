@@ -7,7 +7,7 @@ use Rattle.vox_read.specs.declared.voxels.Voxel.{Voxel}
 use Rattle.extract.specs.Listing.{voxels_of_box}
 use Rattle.vw_cell.specs.Counts.{number_in}
 use Rattle.extract.specs.Saved.{file_of_box}
-use Rattle.flood.specs.Ways.{IsJoined}
+use Rattle.flood.specs.Paths.{IsJoined}
 
 -- a cell of the box that isn't set
 pub record IsClearIn (b : Boxed) (cells : Cell → Bool) (c : Cell) : Type 0 where

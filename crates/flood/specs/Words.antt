@@ -5,7 +5,7 @@ use Rattle.std.specs.Int.{bit_at}
 use Rattle.vw_cell.specs.Sums.{sum_below}
 use Rattle.vw_cell.specs.declared.cells.Cell.{Cell}
 use Rattle.vw_cell.specs.Counts.{cell_at}
-use Rattle.flood.specs.Ways.{IsJoined}
+use Rattle.flood.specs.Paths.{IsJoined}
 
 -- the bit of a place
 abbrev pub bit_at_place : Cell → ℕ

@@ -2,7 +2,7 @@
 //!
 //! It goes by rows of bits and whole blocks, and takes memory for them, for the list and for the
 //! file. A model's region is told over a store of its own (`specs/Models.antt`). What is connected
-//! is said in `specs/Ways.antt` and what a region is in `specs/Regions.antt`, in cells alone.
+//! is said in `specs/Paths.antt` and what a region is in `specs/Regions.antt`, in cells alone.
 #![tactic(auto)]
 
 mod bit_regions;

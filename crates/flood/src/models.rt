@@ -2,8 +2,8 @@ ghost use Rattle.std.specs.Prelude.{◌≡◌, ◌⊎◌, ◌≤◌, ◌<◌, �
 ghost use Rattle.vw_cell.specs.Places.{FitsAt, IsInBox};
 ghost use Rattle.vw_cell.specs.Sides.{is_side};
 ghost use Rattle.vox_read.specs.Contents.{AreModels, IsModel, IsSize, is_cell};
-ghost use Rattle.one_store.specs.notes.Told.{nothing_told};
-ghost use Rattle.one_store.specs.Known.{known_seen};
+ghost use Rattle.one_store.specs.notes.StoreNotes.{no_notes};
+ghost use Rattle.one_store.specs.Known.{known_state};
 ghost use Rattle.node_words.specs.descent.Roots.{HoldsRoot, ForWorld};
 ghost use Rattle.edit_stamp.specs.Stamps.{stamped};
 ghost use Rattle.flood.specs.Regions.{FilesRegion};
@@ -155,7 +155,7 @@ fn in_store<L: Ledger>(
     requires some { 0 < L.parts }
     requires low { 2 ≤ side }
     requires plan { store.old.words.plan ≡ flood_plan side }
-    requires told { store.old.told ≡ nothing_told }
+    requires told { store.old.told ≡ no_notes }
     requires size { b.size ≡ stencil.now.size }
     requires inside { FitsAt b.at b.size (2 ^ side) }
     requires small { (b.size.x ≤ 256) × (b.size.y ≤ 256) × (b.size.z ≤ 256) }

@@ -8,7 +8,7 @@ use Rattle.std.proofs.lemmas.List.{map-append}
 use Rattle.std.proofs.lemmas.List.Elements.{All-nil, All-push}
 use Rattle.vw_cell.specs.declared.cells.Cell.{Cell}
 use Rattle.vox_read.specs.declared.voxels.Voxel.{Voxel}
-use Rattle.vox_read.specs.Contents.{StandsInside}
+use Rattle.vox_read.specs.Contents.{IsInsideModel}
 use Rattle.history_model.specs.declared.acts.Act.{Act}
 use Rattle.gen_load.specs.Draws.{state_after}
 use Rattle.gen_load.specs.Loads.{voxel_from, voxels_from, edit_from, edit_state, line_state, edits_from, edit_line, script_from, scripts_from}
@@ -18,13 +18,13 @@ use Rattle.gen_load.proofs.Steps.{state_add}
 pub record HasDrawn (size : Cell) (g k : ℕ) (voxels : List Voxel) (now : ℕ) : Type 0 where
   pub are : voxels ≡ voxels_from g k
   pub number : length voxels ≡ k
-  pub inside : All (StandsInside size) voxels
+  pub inside : All (IsInsideModel size) voxels
   pub state : now ≡ state_after g (4 * k)
 
 pub none_drawn : (size : Cell) (g : ℕ) → HasDrawn size g 0 [] g
 unfolding state_after voxels_from
 none_drawn size g =
-    record { are = refl; number = refl; inside = All-nil (StandsInside size); state = refl }
+    record { are = refl; number = refl; inside = All-nil (IsInsideModel size); state = refl }
 
 one_more : (g k : ℕ)
     → voxels_from g (k + 1) ≡ voxels_from g k ++ voxel_from (state_after g (4 * k)) ∷ []
@@ -32,7 +32,7 @@ unfolding voxels_from
 one_more g k = rw add-one refl
 
 pub one_drawn : (size : Cell) (g k : ℕ) (voxels : List Voxel) (now : ℕ) (v : Voxel) (new : ℕ)
-    → HasDrawn size g k voxels now → v ≡ voxel_from now → StandsInside size v
+    → HasDrawn size g k voxels now → v ≡ voxel_from now → IsInsideModel size v
     → new ≡ state_after now 4
     → HasDrawn size g (k + 1) (voxels ++ v ∷ []) new
 one_drawn size g k voxels now v new drawn is inside moved =
@@ -41,7 +41,7 @@ one_drawn size g k voxels now v new drawn is inside moved =
     record {
       are = rw (drawn.are, same) (sym (one_more g k));
       number = (let more = length_push voxels v in omega (arith, more, drawn.number));
-      inside = All-push (StandsInside size) voxels v drawn.inside inside;
+      inside = All-push (IsInsideModel size) voxels v drawn.inside inside;
       state = moved ∙ ap (λ (s : ℕ). state_after s 4) drawn.state ∙ state_add g (4 * k) 4
           ∙ ap (state_after g) all;
     }

@@ -1,5 +1,5 @@
 ghost use Rattle.std.specs.Prelude.{◌≡◌, ◌*◌, All, length, IfOk, OnOk};
-ghost use Rattle.vox_read.specs.Contents.{StandsInside};
+ghost use Rattle.vox_read.specs.Contents.{IsInsideModel};
 ghost use Rattle.gen_load.specs.Draws.{state_after};
 ghost use Rattle.gen_load.specs.Loads.{voxel_from, voxels_from};
 
@@ -23,7 +23,7 @@ pub(crate) fn next_voxels(
 ) -> Result<Vec<Voxel>, Memory>
     ensures voxels { IfOk result (λ voxels. voxels.items ≡ voxels_from numbers.old count) }
     ensures len { IfOk result (λ voxels. length voxels.items ≡ count) }
-    ensures inside { IfOk result (λ voxels. All (StandsInside SIZE) voxels.items) }
+    ensures inside { IfOk result (λ voxels. All (IsInsideModel SIZE) voxels.items) }
     ensures state { OnOk result (numbers.new ≡ state_after numbers.old (4 * count)) }
 {
     let mut voxels = Vec::with_capacity(alloc, usize::from(count))?;
@@ -36,7 +36,7 @@ pub(crate) fn next_voxels(
 #[tactic(auto, unfolding(crate::specs::Draws::state_after))]
 fn next_voxel(numbers: &mut Generator) -> Voxel
     ensures voxel { result ≡ voxel_from numbers.old }
-    ensures inside { StandsInside SIZE result }
+    ensures inside { IsInsideModel SIZE result }
     ensures state { numbers.new ≡ state_after numbers.old 4 }
 {
     let x = numbers.below(32);

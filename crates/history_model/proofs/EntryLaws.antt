@@ -16,7 +16,7 @@ use Rattle.history_model.specs.declared.spelling.Spelled.TheVariants as spelled
 use Rattle.history_model.specs.declared.spelling.SpelledTint.{SpelledTint}
 use Rattle.history_model.specs.Reach.{ActLiesIn, TintLiesIn}
 use Rattle.history_model.specs.Logs.{suits_tints}
-use Rattle.history_model.specs.Spelled.{act_of, act_told}
+use Rattle.history_model.specs.Spelled.{act_of, spelled_act}
 use Rattle.history_model.specs.Spelling.{three_numbers, spelled_by, tinted_act, cell_list, act_list, IsSmallCell, IsSmallTint, IsSmall}
 use Rattle.history_model.proofs.SpellingLaws.{act_again, act_takes, numbers_again, numbers_take, IsWords, IsActOf}
 use Rattle.history_model.specs.Entries.{IsRecord, record_list, entry_spelled}
@@ -206,6 +206,6 @@ tint_suits c spelled.Undo = refl
 tint_suits c spelled.Redo = refl
 
 pub told_suits : (coloured : Bool) (s : SpelledTint)
-    → suits_tints coloured (act_told coloured s) ≡ true
+    → suits_tints coloured (spelled_act coloured s) ≡ true
 told_suits false s = plain_suits s.act
 told_suits true s = tint_suits s.tint s.act

@@ -14,8 +14,8 @@ use Rattle.history_model.specs.declared.histories.Mark.{Mark}
 use Rattle.history_model.specs.Logs.{Log}
 use Rattle.history_model.specs.Reach.{ActLiesIn}
 use Rattle.history_model.specs.Journal.{header}
-use Rattle.history_model.specs.Following.{IsJournalLines, Goes}
-use Rattle.history_model.specs.Entries.{IsRecord, IsMark, IsSide, AreMarks, IsTold, record_list, mark_list, side_list, record_texts, mark_texts, front_lines, last_lines, next_version}
+use Rattle.history_model.specs.Following.{IsJournalLines, LinesFollow}
+use Rattle.history_model.specs.Entries.{IsRecord, IsMark, IsSide, AreMarks, HasJournal, record_list, mark_list, side_list, record_texts, mark_texts, front_lines, last_lines, next_version}
 use Rattle.history_model.proofs.EntryLaws.{records_once}
 use Rattle.history_model.proofs.MarkLaws.{marks_once, sides_once, side_small}
 use Rattle.history_model.proofs.JournalLaws.{record_words, mark_words, side_words, end_words}
@@ -140,7 +140,7 @@ records_left n (r ∷ more) marks = omega arith
 
 goes_mark : (log : Log) (rest : List (List ℕ)) (more : List Mark)
     → AreMarks (length log.records) (next_version 0 log.marks) more
-    → mark_texts more ++ last_lines ≡ rest → Goes log rest
+    → mark_texts more ++ last_lines ≡ rest → LinesFollow log rest
 goes_mark log rest [] are behind = inl (sym behind)
 goes_mark log rest (m ∷ more) are behind =
     inr
@@ -159,7 +159,7 @@ last_is P [] r more all = all.0
 last_is P (s ∷ ours) r more all = last_is P ours r more all.1
 
 pub next_is : (log other : Log) (r : Record) (more : List Record) → other.coloured ≡ log.coloured
-    → IsTold other → other.records ≡ log.records ++ r ∷ more → IsRecord log.coloured other.side r
+    → HasJournal other → other.records ≡ log.records ++ r ∷ more → IsRecord log.coloured other.side r
 next_is log other r more alike told_other whole =
     let theirs : AllByRecursion (IsRecord log.coloured other.side) other.records =
     subst (λ (c : Bool). AllByRecursion
@@ -169,11 +169,11 @@ next_is log other r more alike told_other whole =
     last_is (IsRecord log.coloured other.side) log.records r more all
 
 goes_record : (log other : Log) (rest : List (List ℕ)) (r : Record) (more : List Record)
-    (marks : List Mark) → other.coloured ≡ log.coloured → log.marks ≡ marks → IsTold log
-    → IsTold other → 2 ^ other.side ≡ 2 ^ log.side → other.records ≡ log.records ++ r ∷ more
+    (marks : List Mark) → other.coloured ≡ log.coloured → log.marks ≡ marks → HasJournal log
+    → HasJournal other → 2 ^ other.side ≡ 2 ^ log.side → other.records ≡ log.records ++ r ∷ more
     → line_of (record_list (length log.records + 1) r) ∷
     (record_texts (length log.records + 1 + 1) more ++ (mark_texts other.marks ++ last_lines))
-    ≡ mark_texts marks ++ rest → Goes log rest
+    ≡ mark_texts marks ++ rest → LinesFollow log rest
 goes_record log other rest r more [] alike unmarked told told_other sides whole behind =
     let theirs : IsRecord log.coloured other.side r =
     next_is log other r more alike told_other whole in
@@ -205,10 +205,10 @@ goes_record log other rest r more (m ∷ ours) alike marked told told_other side
 
 -- their records behind ours, and their marks
 goes : (log other : Log) (rest : List (List ℕ)) (more : List Record) → other.coloured ≡ log.coloured
-    → IsTold log → IsTold other → 2 ^ other.side ≡ 2 ^ log.side
+    → HasJournal log → HasJournal other → 2 ^ other.side ≡ 2 ^ log.side
     → other.records ≡ log.records ++ more
     → record_texts (length log.records + 1) more ++
-    (mark_texts other.marks ++ last_lines) ≡ mark_texts log.marks ++ rest → Goes log rest
+    (mark_texts other.marks ++ last_lines) ≡ mark_texts log.marks ++ rest → LinesFollow log rest
 goes log other rest [] alike told told_other sides whole behind =
     let same : other.records ≡ log.records = whole ∙ append-nil log.records in
     let marks : AreMarks (length log.records) 0 other.marks =
@@ -230,15 +230,15 @@ headers_once true false same =
     (let wrong : 50
     ≡ 49 = ap (λ (text : List ℕ). get_or text 15 0) same in absurd (omega (arith, wrong)))
 
-pub side_told : (log : Log) → IsTold log → IsSide log.coloured log.side
+pub side_told : (log : Log) → HasJournal log → IsSide log.coloured log.side
 side_told log told = (told.side.0, told.side.1, told.quarter)
 
 -- how any journal goes on behind the lines of a history
-pub goes_on : (log : Log) (rest : List (List ℕ)) → IsTold log
-    → IsJournalLines (front_lines log ++ rest) → Goes log rest
+pub goes_on : (log : Log) (rest : List (List ℕ)) → HasJournal log
+    → IsJournalLines (front_lines log ++ rest) → LinesFollow log rest
 goes_on log rest told journal =
     let other : Log = journal.0 in
-    let told_other : IsTold other = journal.1 in
+    let told_other : HasJournal other = journal.1 in
     let alike : other.coloured ≡ log.coloured =
     headers_once other.coloured log.coloured (ap first (sym journal.2)) in
     let side_line : line_of (side_list other.coloured other.side) ≡ line_of (side_list log.coloured log.side) = ap (λ (ls : List (List ℕ)). first (rest_of ls)) (sym journal.2) in

@@ -19,7 +19,7 @@ use Rattle.history_model.specs.declared.histories.Mark.{Mark}
 use Rattle.history_model.specs.Logs.{Log}
 use Rattle.history_model.specs.Journal.{tint_words, act_words, record_line, record_lines, mark_line, header, journal_side, journal_of}
 use Rattle.history_model.specs.Spelling.{cell_list, box_list, ball_list, tint_list, act_list, IsSmallCell, IsSmallBox, IsSmallTint, IsSmall}
-use Rattle.history_model.specs.Entries.{IsRecord, IsMark, AreMarks, IsTold, record_list, mark_list, side_list, record_texts, mark_texts, front_lines, last_lines}
+use Rattle.history_model.specs.Entries.{IsRecord, IsMark, AreMarks, HasJournal, record_list, mark_list, side_list, record_texts, mark_texts, front_lines, last_lines}
 use Rattle.history_model.proofs.EntryLaws.{lies_small}
 use Rattle.history_model.proofs.MarkLaws.{side_small, world_small}
 
@@ -297,7 +297,7 @@ header_free : (coloured : Bool) → Free 10 (header coloured)
 header_free false = free_text 10 (codes "voxdag journal 1") refl
 header_free true = free_text 10 (codes "voxdag journal 2") refl
 
-pub journal_lines : (log : Log) → IsTold log
+pub journal_lines : (log : Log) → HasJournal log
     → lines (journal_of log) ≡ front_lines log ++ last_lines
 journal_lines log told =
     let few = side_small log.side told.side.1 in

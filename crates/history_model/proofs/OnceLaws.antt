@@ -10,7 +10,7 @@ use Rattle.history_model.specs.declared.histories.Record.{Record}
 use Rattle.history_model.specs.declared.histories.Mark.{Mark}
 use Rattle.history_model.specs.Logs.{Log}
 use Rattle.history_model.specs.Journal.{journal_of}
-use Rattle.history_model.specs.Entries.{IsRecord, IsSide, AreMarks, IsTold, mark_list, side_list, record_texts, mark_texts, front_lines, last_lines}
+use Rattle.history_model.specs.Entries.{IsRecord, IsSide, AreMarks, HasJournal, mark_list, side_list, record_texts, mark_texts, front_lines, last_lines}
 use Rattle.history_model.proofs.MarkLaws.{marks_once, sides_once, side_small}
 use Rattle.history_model.proofs.JournalLaws.{mark_words, side_words, end_words, journal_lines}
 use Rattle.history_model.proofs.GoingOn.{peel_records, tail_no_record, next_is, headers_once, side_told, first, rest_of}
@@ -66,7 +66,7 @@ parts_same a b side coloured records marks =
     ∙ ap (λ (ms : List Mark). log_of b.side b.coloured b.records ms) marks
 
 -- with our records, no further one
-records_same : (a b : Log) (more : List Record) → b.coloured ≡ a.coloured → IsTold a → IsTold b
+records_same : (a b : Log) (more : List Record) → b.coloured ≡ a.coloured → HasJournal a → HasJournal b
     → b.records ≡ a.records ++ more
     → record_texts (length a.records + 1) more ++
     (mark_texts b.marks ++ last_lines) ≡ mark_texts a.marks ++ last_lines
@@ -79,7 +79,7 @@ records_same a b (r ∷ more) alike told told_other whole behind =
     (length a.records + 1) r (side_small b.side told_other.side.1)
     (omega (arith, told.few)) theirs (sym behind) refl)
 
-lines_once : (a b : Log) → IsTold a → IsTold b
+lines_once : (a b : Log) → HasJournal a → HasJournal b
     → front_lines a ++ last_lines ≡ front_lines b ++ last_lines → a ≡ b
 lines_once a b told told_other same =
     let alike : b.coloured ≡ a.coloured =
@@ -116,7 +116,7 @@ lines_once a b told told_other same =
     (sym records.1))
 
 -- a text is that of one history
-pub journals_once : (a b : Log) → IsTold a → IsTold b → journal_of a ≡ journal_of b → a ≡ b
+pub journals_once : (a b : Log) → HasJournal a → HasJournal b → journal_of a ≡ journal_of b → a ≡ b
 journals_once a b told told_other same =
     lines_once a b told told_other
     (sym (journal_lines a told) ∙ ap lines same ∙ journal_lines b told_other)

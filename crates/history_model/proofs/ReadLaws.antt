@@ -7,7 +7,7 @@ use Rattle.std.proofs.lemmas.Slice.Eq.{bytes_eq-Decides}
 use Rattle.plain_text.specs.Parts.{lines, FirstUnfit}
 use Rattle.history_model.specs.Logs.{Log}
 use Rattle.history_model.specs.Journal.{journal_of}
-use Rattle.history_model.specs.Entries.{IsTold, front_lines, last_lines, begun}
+use Rattle.history_model.specs.Entries.{HasJournal, front_lines, last_lines, begun}
 use Rattle.history_model.specs.Following.{IsJournalLines}
 use Rattle.history_model.proofs.TakingLaws.{end_unfit, line_unfit, journal_read}
 use Rattle.history_model.specs.declared.reading.JournalFault.{JournalFault}
@@ -37,7 +37,7 @@ some_bytes : (after : List ℕ) → eqb (length after) 0 ≡ false → 0 < lengt
 some_bytes [] empty = absurd cc
 some_bytes (b ∷ rest) empty = omega arith
 
-pub more_behind : (log : Log) (all rest : List (List ℕ)) (line after : List ℕ) (n : ℕ) → IsTold log
+pub more_behind : (log : Log) (all rest : List (List ℕ)) (line after : List ℕ) (n : ℕ) → HasJournal log
     → all ≡ front_lines log ++ rest → rest ≡ line ∷ lines after → bytes_eq line (codes "end") ≡ true
     → eqb (length after) 0 ≡ false → n ≡ length (front_lines log) + 1
     → FirstUnfit IsJournalLines all (n + 1)
@@ -49,7 +49,7 @@ more_behind log all rest line after n told whole split end some number =
     (omega (arith, number)) (some_bytes after some)
 
 pub entry_unfit : (fault : JournalFault) (log : Log) (all rest : List (List ℕ))
-    (line after : List ℕ) → IsTold log → all ≡ front_lines log ++ rest → rest ≡ line ∷ lines after
+    (line after : List ℕ) → HasJournal log → all ≡ front_lines log ++ rest → rest ≡ line ∷ lines after
     → bytes_eq line (codes "end") ≡ false → RefusesEntry fault log line → RefusesLines fault all
 entry_unfit (Line n) log all rest line after told whole split other refuses =
     line_unfit log all (lines after) line n told
@@ -60,13 +60,13 @@ entry_unfit Memory log all rest line after told whole split other refuses = tt
 pub all_told : (text : List ℕ) (coloured : Bool) (side : ℕ) (entries : List ℕ)
     (read : Result Log JournalFault) → lines text ≡ begun coloured side ++ lines entries
     → IfOk read
-    (λ h. IsTold h × (begun coloured side ++ lines entries ≡ front_lines h ++ last_lines))
-    → IfOk read (λ h. IsTold h × (text ≡ journal_of h))
+    (λ h. HasJournal h × (begun coloured side ++ lines entries ≡ front_lines h ++ last_lines))
+    → IfOk read (λ h. HasJournal h × (text ≡ journal_of h))
 all_told text coloured side entries (Ok h) whole is = (is.0, journal_read text h (whole ∙ is.1))
 all_told text coloured side entries (Err fault) whole is = tt
 
 -- the text of a history is refused for want of memory alone
-pub told_read : (text : List ℕ) (log : Log) (fault : JournalFault) → IsTold log
+pub told_read : (text : List ℕ) (log : Log) (fault : JournalFault) → HasJournal log
     → text ≡ journal_of log → RefusesJournal fault text → fault ≡ Memory
 told_read text log (Line n) told is refuses =
     let journal : IsJournalLines (lines text) = (log, told, ap lines is ∙ journal_lines log told) in
@@ -75,7 +75,7 @@ told_read text log (Line n) told is refuses =
 told_read text log Memory told is refuses = refl
 
 pub told_if : (text : List ℕ) (all : List (List ℕ)) (log : Log) (read : Result Log JournalFault)
-    → lines text ≡ all → IsTold log → text ≡ journal_of log
+    → lines text ≡ all → HasJournal log → text ≡ journal_of log
     → IfErr read (λ fault. RefusesLines fault all) → IfErr read (λ fault. fault ≡ Memory)
 told_if text all log (Ok h) whole told is refuses = tt
 told_if text all log (Err (Line n)) whole told is refuses =
@@ -85,7 +85,7 @@ told_if text all log (Err Memory) whole told is refuses = refl
 
 -- the history that was read, or want of memory
 pub told_all : (text : List ℕ) (log : Log) (read : Result Log JournalFault)
-    → IfOk read (λ h. IsTold h × (text ≡ journal_of h)) → IfErr read (λ fault. fault ≡ Memory)
-    → IsTold log → text ≡ journal_of log → MatchResult read (λ h. h ≡ log) (λ fault. fault ≡ Memory)
+    → IfOk read (λ h. HasJournal h × (text ≡ journal_of h)) → IfErr read (λ fault. fault ≡ Memory)
+    → HasJournal log → text ≡ journal_of log → MatchResult read (λ h. h ≡ log) (λ fault. fault ≡ Memory)
 told_all text log (Ok h) found refused told is = journals_once h log found.0 told (sym found.1 ∙ is)
 told_all text log (Err fault) found refused told is = refused

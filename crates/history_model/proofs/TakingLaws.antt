@@ -9,11 +9,11 @@ use Rattle.history_model.specs.declared.histories.Record.{Record}
 use Rattle.history_model.specs.declared.histories.Mark.{Mark}
 use Rattle.history_model.specs.Logs.{Log}
 use Rattle.history_model.specs.Journal.{header, journal_of}
-use Rattle.history_model.specs.Entries.{IsRecord, IsNextMark, IsSide, AreMarks, IsTold, record_list, mark_list, side_list, record_texts, mark_texts, front_lines, last_lines, next_version}
+use Rattle.history_model.specs.Entries.{IsRecord, IsNextMark, IsSide, AreMarks, HasJournal, record_list, mark_list, side_list, record_texts, mark_texts, front_lines, last_lines, next_version}
 use Rattle.history_model.proofs.MarkLaws.{side_small}
 use Rattle.history_model.proofs.JournalLaws.{record_words, mark_words, side_words, end_words, journal_joined}
 use Rattle.history_model.proofs.GoingOn.{goes_on, headers_once, side_told}
-use Rattle.history_model.specs.Following.{IsJournalLines, Goes, RecordIn, NoRecordIn}
+use Rattle.history_model.specs.Following.{IsJournalLines, LinesFollow, RecordIn, NoRecordIn}
 
 -- ---- numbers
 
@@ -33,13 +33,13 @@ marks_below count least (m ∷ more) low are =
     let further = marks_below count (m.version + 1) more (omega (arith, are.1)) are.2 in
     (omega (arith, further.0, are.0), further.1)
 
-pub marks_few : (log : Log) → IsTold log
+pub marks_few : (log : Log) → HasJournal log
     → (length log.marks ≤ 65535) × (next_version 0 log.marks ≤ 65535)
 marks_few log told =
     let below = marks_below (length log.records) 0 log.marks (omega arith) told.marks in
     (omega (arith, below.0, below.1, told.few), omega (arith, below.1, told.few))
 
-pub line_after : (log : Log) → IsTold log
+pub line_after : (log : Log) → HasJournal log
     → (length (front_lines log) ≡ length log.records + length log.marks + 2)
     × (length log.marks ≤ 65535)
 line_after log told =
@@ -88,8 +88,8 @@ marks_more count least (s ∷ more) m are is =
 line_by : (line : List ℕ) (ws : List (List ℕ)) → ws ≡ words line → line_of ws ≡ line
 line_by line ws same = ap (join_with_byte 32) same ∙ parts_joined 32 line
 
-pub takes_record : (log : Log) (line : List ℕ) (r : Record) → IsTold log → RecordIn log line r
-    → IsTold (with_record log r) × (front_lines (with_record log r) ≡ front_lines log ++ line ∷ [])
+pub takes_record : (log : Log) (line : List ℕ) (r : Record) → HasJournal log → RecordIn log line r
+    → HasJournal (with_record log r) × (front_lines (with_record log r) ≡ front_lines log ++ line ∷ [])
 takes_record log line r told here =
     let count = length-append log.records (r ∷ []) in
     let marks : AreMarks (length (log.records ++ r ∷ [])) 0 log.marks = rw (here.unmarked) tt in
@@ -114,9 +114,9 @@ takes_record log line r told here =
           (side_list log.coloured log.side) ∷ ls) entries,
     )
 
-pub takes_mark : (log : Log) (line : List ℕ) (m : Mark) → IsTold log
+pub takes_mark : (log : Log) (line : List ℕ) (m : Mark) → HasJournal log
     → IsNextMark (length log.records) (next_version 0 log.marks) m → mark_list m ≡ words line
-    → IsTold (with_mark log m) × (front_lines (with_mark log m) ≡ front_lines log ++ line ∷ [])
+    → HasJournal (with_mark log m) × (front_lines (with_mark log m) ≡ front_lines log ++ line ∷ [])
 takes_mark log line m told fits is =
     let texts : mark_texts (log.marks ++ m ∷ []) ≡ mark_texts log.marks ++ line ∷ [] =
     mark_texts_more log.marks m
@@ -141,8 +141,8 @@ tail_of (x ∷ more) = more
 first_of_lines : (a b : List ℕ) (x y : List (List ℕ)) → a ∷ x ≡ b ∷ y → a ≡ b
 first_of_lines a b x y same = cc
 
-pub no_entry_in : (log : Log) (line : List ℕ) → IsTold log → NoRecordIn log line → NoMarkIn log line
-    → (more : List (List ℕ)) → Goes log (line ∷ more) → line ≡ codes "end"
+pub no_entry_in : (log : Log) (line : List ℕ) → HasJournal log → NoRecordIn log line → NoMarkIn log line
+    → (more : List (List ℕ)) → LinesFollow log (line ∷ more) → line ≡ codes "end"
 no_entry_in log line told no_record no_mark more (inl last) = first_of_lines _ _ _ _ last
 no_entry_in log line told no_record no_mark more (inr (inl g)) =
     let e : line ≡ line_of (record_list (length log.records + 1) g.r) =
@@ -185,7 +185,7 @@ none_next (s ∷ t ∷ more) same =
 
 -- a history with no records
 pub begins_told : (coloured : Bool) (side : ℕ) → IsSide coloured side
-    → IsTold (record { side = side; coloured = coloured; records = []; marks = [] })
+    → HasJournal (record { side = side; coloured = coloured; records = []; marks = [] })
 begins_told coloured side is =
     record { side = (is.0, is.1); quarter = is.2; few = omega arith; records = tt; marks = tt }
 
@@ -197,7 +197,7 @@ unfit_by : (front : List (List ℕ)) (line : List ℕ) (after : List (List ℕ))
 unfit_by front line [] none = none []
 unfit_by front line (next ∷ more) none = λ other others. none (other ∷ others)
 
-not_short : (tail : List ℕ) (log : Log) → Goes log (tail ∷ []) → ⊥
+not_short : (tail : List ℕ) (log : Log) → LinesFollow log (tail ∷ []) → ⊥
 not_short tail log (inl last) =
     (let e : length (tail ∷ []) ≡ length last_lines = ap length last in omega (arith, e))
 not_short tail log (inr (inl g)) =
@@ -206,7 +206,7 @@ not_short tail log (inr (inr g)) =
     (let e : length (tail ∷ []) ≡ suc (length g.more) = ap length g.is in omega (arith, e, g.some))
 
 -- a line with no end
-pub tail_unfit : (log : Log) (all : List (List ℕ)) (tail : List ℕ) (n : ℕ) → IsTold log
+pub tail_unfit : (log : Log) (all : List (List ℕ)) (tail : List ℕ) (n : ℕ) → HasJournal log
     → all ≡ front_lines log ++ tail ∷ [] → n ≡ length (front_lines log) + 1 → FirstUnfit Kind all n
 tail_unfit log all tail n told whole number =
     record {
@@ -220,10 +220,10 @@ tail_unfit log all tail n told whole number =
     }
 
 -- a line that goes on with no record and no mark
-pub line_unfit : (log : Log) (all after : List (List ℕ)) (line : List ℕ) (n : ℕ) → IsTold log
+pub line_unfit : (log : Log) (all after : List (List ℕ)) (line : List ℕ) (n : ℕ) → HasJournal log
     → all ≡ front_lines log ++ line ∷ after → n ≡ length (front_lines log) + 1
     → (line ≡ codes "end" → ⊥)
-    → ((more : List (List ℕ)) → Goes log (line ∷ more) → line ≡ codes "end") → FirstUnfit Kind all n
+    → ((more : List (List ℕ)) → LinesFollow log (line ∷ more) → line ≡ codes "end") → FirstUnfit Kind all n
 line_unfit log all after line n told whole number other only =
     record {
       front = front_lines log;
@@ -236,7 +236,7 @@ line_unfit log all after line n told whole number other only =
     }
 
 -- behind the last line only nothing can stand
-end_goes : (log : Log) (rest : List (List ℕ)) → IsTold log → Goes log (codes "end" ∷ rest)
+end_goes : (log : Log) (rest : List (List ℕ)) → HasJournal log → LinesFollow log (codes "end" ∷ rest)
     → rest ≡ [] ∷ []
 end_goes log rest told (inl last) = ap tail_of last
 end_goes log rest told (inr (inl g)) =
@@ -269,7 +269,7 @@ not_empty after some e =
     let size : length after ≡ 0 = ap length nothing in
     omega (arith, size)
 
-pub end_unfit : (log : Log) (all : List (List ℕ)) (after : List ℕ) (n : ℕ) → IsTold log
+pub end_unfit : (log : Log) (all : List (List ℕ)) (after : List ℕ) (n : ℕ) → HasJournal log
     → all ≡ front_lines log ++ codes "end" ∷ lines after → n ≡ length (front_lines log) + 2
     → 0 < length after → FirstUnfit Kind all n
 end_unfit log all after n told whole number some =
@@ -289,7 +289,7 @@ end_unfit log all after n told whole number some =
 abbrev starting : Bool → Log
 starting coloured = record { side = 4; coloured = coloured; records = []; marks = [] }
 
-starting_told : (coloured : Bool) → IsTold (starting coloured)
+starting_told : (coloured : Bool) → HasJournal (starting coloured)
 starting_told coloured = begins_told coloured 4 (omega arith, omega arith, λ _. omega arith)
 
 -- some journal begins so
@@ -383,8 +383,8 @@ side_begun coloured all after line exponent whole is =
 -- the history that stands so in its three parts
 pub takes_record_as : (log : Log) (line : List ℕ) (r : Record) (side : ℕ) (coloured : Bool)
     (records : List Record) (marks : List Mark) → side ≡ log.side → coloured ≡ log.coloured
-    → records ≡ log.records ++ r ∷ [] → marks ≡ log.marks → IsTold log → RecordIn log line r
-    → IsTold (record { side = side; coloured = coloured; records = records; marks = marks })
+    → records ≡ log.records ++ r ∷ [] → marks ≡ log.marks → HasJournal log → RecordIn log line r
+    → HasJournal (record { side = side; coloured = coloured; records = records; marks = marks })
     ×
     (front_lines
     (record { side = side; coloured = coloured; records = records; marks = marks })
@@ -397,14 +397,14 @@ takes_record_as log line r side coloured records marks same_side alike more same
       records = records;
       marks = marks;
     } = cc in
-    subst (λ (h : Log). IsTold h × (front_lines h ≡ front_lines log ++ line ∷ [])) e
+    subst (λ (h : Log). HasJournal h × (front_lines h ≡ front_lines log ++ line ∷ [])) e
     (takes_record log line r told here)
 
 pub takes_mark_as : (log : Log) (line : List ℕ) (m : Mark) (side : ℕ) (coloured : Bool)
     (records : List Record) (marks : List Mark) → side ≡ log.side → coloured ≡ log.coloured
-    → records ≡ log.records → marks ≡ log.marks ++ m ∷ [] → IsTold log
+    → records ≡ log.records → marks ≡ log.marks ++ m ∷ [] → HasJournal log
     → IsNextMark (length log.records) (next_version 0 log.marks) m → mark_list m ≡ words line
-    → IsTold (record { side = side; coloured = coloured; records = records; marks = marks })
+    → HasJournal (record { side = side; coloured = coloured; records = records; marks = marks })
     ×
     (front_lines
     (record { side = side; coloured = coloured; records = records; marks = marks })
@@ -417,7 +417,7 @@ takes_mark_as log line m side coloured records marks same_side alike same_record
       records = records;
       marks = marks;
     } = cc in
-    subst (λ (h : Log). IsTold h × (front_lines h ≡ front_lines log ++ line ∷ [])) e
+    subst (λ (h : Log). HasJournal h × (front_lines h ≡ front_lines log ++ line ∷ [])) e
     (takes_mark log line m told fits is)
 
 -- the text of the lines

@@ -14,7 +14,7 @@ use Rattle.history_model.specs.declared.histories.Record.{Record}
 use Rattle.history_model.specs.declared.histories.Mark.{Mark}
 use Rattle.history_model.specs.Logs.{Log, FitsWorld, FitsModel, TintFits, IsLegal, SuitsTints, suits_tints}
 use Rattle.history_model.specs.Reach.{ActLiesIn, TintLiesIn}
-use Rattle.history_model.specs.Entries.{IsRecord, AreMarks, IsSide, IsTold}
+use Rattle.history_model.specs.Entries.{IsRecord, AreMarks, IsSide, HasJournal}
 use Rattle.history_model.specs.Signing.{IsSigned, AreSigned}
 
 corner_in : (side : ℕ) (at size : Cell) → FitsAt at size side → IsInWorld side at
@@ -97,7 +97,7 @@ marks_told count least (m ∷ more) low rising marked signed =
 
 pub can_be_told : (side : ℕ) (models : List Content) (log : Log) → IsSide log.coloured log.side
     → AreModels models
-    → IsLegal side models log → AreSigned log → SuitsTints log → IsTold log
+    → IsLegal side models log → AreSigned log → SuitsTints log → HasJournal log
 can_be_told side models log of_world are legal signed suit =
     record {
       side = (of_world.0, of_world.1);

@@ -7,7 +7,7 @@ use Rattle.history_model.specs.declared.spelling.Spelled.TheVariants.{Fill, Eras
 use Rattle.history_model.specs.declared.spelling.SpelledTint.{SpelledTint}
 use Rattle.history_model.specs.Reach.{ActLiesIn, TakesTint, GivesWhere}
 use Rattle.history_model.specs.Spelling.{tinted_act}
-use Rattle.history_model.specs.Spelled.{act_of, act_told}
+use Rattle.history_model.specs.Spelled.{act_of, spelled_act}
 
 lies_without : (n c : ℕ) (s : Spelled) → ActLiesIn n (tinted_act c (act_of s))
     → ActLiesIn (n / 4) (act_of s) × TakesTint c (act_of s)
@@ -33,14 +33,14 @@ lies_with n c Redo lies takes = tt
 
 module _ (side world : ℕ) (s : SpelledTint) (quarter : 2 ^ world ≡ 2 ^ side / 4) where
   pub placed_none : (ActLiesIn (2 ^ world) (act_of s.act) → ⊥)
-      → ActLiesIn (2 ^ side) (act_told true s) → ⊥
+      → ActLiesIn (2 ^ side) (spelled_act true s) → ⊥
   placed_none none lies =
       none (subst (λ (n : ℕ). ActLiesIn n (act_of s.act)) (sym quarter)
       (lies_without (2 ^ side) s.tint s.act lies).0)
 
   by_tint : (r : Option Act) → ActLiesIn (2 ^ world) (act_of s.act)
       → GivesWhere (TakesTint s.tint (act_of s.act)) (tinted_act s.tint (act_of s.act)) r
-      → GivesWhere (ActLiesIn (2 ^ side) (act_told true s)) (act_told true s) r
+      → GivesWhere (ActLiesIn (2 ^ side) (spelled_act true s)) (spelled_act true s) r
   by_tint None lies none = λ whole. none (lies_without (2 ^ side) s.tint s.act whole).1
   by_tint (Some r) lies is = (
     lies_with (2 ^ side) s.tint s.act
@@ -51,7 +51,7 @@ module _ (side world : ℕ) (s : SpelledTint) (quarter : 2 ^ world ≡ 2 ^ side 
   pub placed_some : (act : Act) (r : Option Act) → act ≡ act_of s.act
       → ActLiesIn (2 ^ world) (act_of s.act)
       → GivesWhere (TakesTint s.tint act) (tinted_act s.tint act) r
-      → GivesWhere (ActLiesIn (2 ^ side) (act_told true s)) (act_told true s) r
+      → GivesWhere (ActLiesIn (2 ^ side) (spelled_act true s)) (spelled_act true s) r
   placed_some act r same lies gives =
       by_tint r lies
       (subst (λ (a : Act). GivesWhere (TakesTint s.tint a) (tinted_act s.tint a) r) same gives)

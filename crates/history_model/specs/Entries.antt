@@ -35,7 +35,7 @@ AreMarks count least (m ∷ more) =
     (least ≤ m.version) × IsMark count m × AreMarks count (m.version + 1) more
 
 -- a history that a journal can tell
-pub record IsTold (log : Log) : Type 0 where
+pub record HasJournal (log : Log) : Type 0 where
   pub side : (2 ≤ log.side) × (log.side ≤ 12)
   pub quarter : log.coloured ≡ true → 4 ≤ log.side
   pub few : length log.records ≤ 65535
@@ -44,7 +44,7 @@ pub record IsTold (log : Log) : Type 0 where
 
 -- the text of such a history
 abbrev pub IsJournal : List ℕ → Type 0
-IsJournal text = (log : Log) × IsTold log × (text ≡ journal_of log)
+IsJournal text = (log : Log) × HasJournal log × (text ≡ journal_of log)
 
 -- ---- words
 

@@ -5,14 +5,14 @@ use Rattle.plain_text.specs.Parts.{words, line_of}
 use Rattle.history_model.specs.declared.histories.Record.{Record}
 use Rattle.history_model.specs.declared.histories.Mark.{Mark}
 use Rattle.history_model.specs.Logs.{Log}
-use Rattle.history_model.specs.Entries.{IsRecord, IsNextMark, IsTold, record_list, mark_list, front_lines, last_lines, next_version}
+use Rattle.history_model.specs.Entries.{IsRecord, IsNextMark, HasJournal, record_list, mark_list, front_lines, last_lines, next_version}
 
 -- the lines are those of a journal
 abbrev pub IsJournalLines : List (List ℕ) → Type 0
-IsJournalLines all = (log : Log) × IsTold log × (all ≡ front_lines log ++ last_lines)
+IsJournalLines all = (log : Log) × HasJournal log × (all ≡ front_lines log ++ last_lines)
 
 -- a further record, which stands before all marks
-pub record GoesRecord (log : Log) (rest : List (List ℕ)) : Type 0 where
+pub record RecordFollows (log : Log) (rest : List (List ℕ)) : Type 0 where
   pub r : Record
   pub more : List (List ℕ)
   pub unmarked : log.marks ≡ []
@@ -22,15 +22,15 @@ pub record GoesRecord (log : Log) (rest : List (List ℕ)) : Type 0 where
   pub some : 0 < length more
 
 -- a further mark
-pub record GoesMark (log : Log) (rest : List (List ℕ)) : Type 0 where
+pub record MarkFollows (log : Log) (rest : List (List ℕ)) : Type 0 where
   pub m : Mark
   pub more : List (List ℕ)
   pub fits : IsNextMark (length log.records) (next_version 0 log.marks) m
   pub is : rest ≡ line_of (mark_list m) ∷ more
   pub some : 0 < length more
 
-abbrev pub Goes : Log → List (List ℕ) → Type 0
-Goes log rest = (rest ≡ last_lines) ⊎ (GoesRecord log rest ⊎ GoesMark log rest)
+abbrev pub LinesFollow : Log → List (List ℕ) → Type 0
+LinesFollow log rest = (rest ≡ last_lines) ⊎ (RecordFollows log rest ⊎ MarkFollows log rest)
 
 -- the record of a line, where no mark was seen
 pub record RecordIn (log : Log) (line : List ℕ) (r : Record) : Type 0 where

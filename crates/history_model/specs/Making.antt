@@ -12,8 +12,8 @@ use Rattle.history_model.specs.Parts.{in_plane, stamped_in, stamp_half}
 use Rattle.history_model.specs.Stores.{edited_in}
 use Rattle.history_model.specs.declared.acts.TintAct.{TintAct}
 use Rattle.history_model.specs.declared.acts.TintAct.TheVariants.{Stamp}
-use Rattle.history_model.specs.declared.parts.Made.{Made}
-use Rattle.history_model.specs.declared.parts.Made.TheVariants.{Fixed, Read}
+use Rattle.history_model.specs.declared.parts.CellSource.{CellSource}
+use Rattle.history_model.specs.declared.parts.CellSource.TheVariants.{Fixed, Read}
 
 -- in the store of this side, the cells after are just those that the edit makes of the cells before
 pub record MayMake (side : ℕ) (models : List Content) (act : Act)
@@ -43,12 +43,12 @@ pub record LayersAreMade (side : ℕ) (models : List Content) (act : Act) (befor
 
 -- what an edit makes of a cell, told for all worlds before it: whether it is set, or which cell's
 -- state it has
-abbrev pub TellsMade : (World → World) → Cell → Made → Type 0
-TellsMade edit q (Fixed set) = (w : World) → edit w q ≡ set
-TellsMade edit q (Read p) = (w : World) → edit w q ≡ w p
+abbrev pub IsCellSource : (World → World) → Cell → CellSource → Type 0
+IsCellSource edit q (Fixed set) = (w : World) → edit w q ≡ set
+IsCellSource edit q (Read p) = (w : World) → edit w q ≡ w p
 
 -- the cell that it reads, where there is one, lies in the world of this side
-abbrev pub ReadsIn : ℕ → Made → Type 0
+abbrev pub ReadsIn : ℕ → CellSource → Type 0
 ReadsIn side (Fixed set) = ⊤
 ReadsIn side (Read p) = IsInWorld side p
 

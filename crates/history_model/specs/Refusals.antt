@@ -3,7 +3,7 @@ use Rattle.std.specs.Prelude.{◌≡◌, ℕ, ◌+◌, List, ◌∷◌, length, 
 use Rattle.plain_text.specs.Parts.{lines, FirstUnfit}
 use Rattle.history_model.specs.Logs.{Log}
 use Rattle.history_model.specs.Entries.{front_lines}
-use Rattle.history_model.specs.Following.{IsJournalLines, Goes}
+use Rattle.history_model.specs.Following.{IsJournalLines, LinesFollow}
 use Rattle.history_model.specs.declared.reading.JournalFault.{JournalFault}
 use Rattle.history_model.specs.declared.reading.JournalFault.TheVariants.{Line, Memory}
 
@@ -19,7 +19,7 @@ RefusesLines Memory all = Unit {0}
 
 -- no journal goes on with this line, but for its last
 abbrev pub NoEntry : Log → List ℕ → Type 0
-NoEntry log line = (more : List (List ℕ)) → Goes log (line ∷ more) → line ≡ codes "end"
+NoEntry log line = (more : List (List ℕ)) → LinesFollow log (line ∷ more) → line ≡ codes "end"
 
 -- the same of the line behind those of a history
 abbrev pub RefusesEntry : JournalFault → Log → List ℕ → Type 0

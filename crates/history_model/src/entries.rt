@@ -5,12 +5,12 @@ ghost use Rattle.history_model.specs.Packing.{Reads};
 ghost use Rattle.vw_cell.specs.Counts.{cell_at};
 ghost use Rattle.history_model.specs.Reach.{ActLiesIn};
 ghost use Rattle.history_model.specs.Journal.{journal_side};
-ghost use Rattle.history_model.specs.Spelled.{act_told};
+ghost use Rattle.history_model.specs.Spelled.{spelled_act};
 ghost use Rattle.history_model.specs.Entries.{IsRecord, IsNextMark, IsSide, record_list, mark_list, side_list, entry_spelled, mark_spelled, side_spelled};
 
 use crate::histories::{Mark, Record};
-use crate::placing::place_told;
-use crate::spelling::{SpelledTint, Three, read_told, three_numbers};
+use crate::placing::place_spelled;
+use crate::spelling::{SpelledTint, Three, read_spelled, three_numbers};
 use plain_text::{ExactWords, WordFault, must_be, number_by, take_end, take_three, take_word};
 use vw_cell::Side;
 
@@ -40,15 +40,15 @@ fn record_of(
     requires { coloured ≡ true → 4 ≤ side }
     ensures { MatchOption result
         (head.x ≡ number → head.y < 64
-        → ActLiesIn (2 ^ side) (act_told coloured spelled.now) → ⊥)
+        → ActLiesIn (2 ^ side) (spelled_act coloured spelled.now) → ⊥)
         (λ r. IsRecord coloured side r
         × (head ≡ cell_at number r.session r.line)
-        × (r.act ≡ act_told coloured spelled.now)) }
+        × (r.act ≡ spelled_act coloured spelled.now)) }
 {
     if head.x != number || head.y > 63 {
         return None;
     }
-    let act = place_told(spelled, side, coloured)?;
+    let act = place_spelled(spelled, side, coloured)?;
     Some(Record {
         session: head.y as u16,
         line: head.z,
@@ -60,14 +60,14 @@ fn record_of(
 #[tactic(auto, unfolding(crate::specs::Entries::entry_spelled))]
 fn read_entry(line: &[u8], coloured: bool) -> Result<(Three, SpelledTint), WordFault>
     ensures { Gives
-        (λ e. (e.0, act_told coloured e.1))
+        (λ e. (e.0, spelled_act coloured e.1))
         result
         (entry_spelled coloured (words line.now)) }
 {
     let mut words = ExactWords::new(line);
     let head = take_three(&mut words)?;
     let name = take_word(&mut words)?;
-    let act = read_told(coloured, name, &mut words)?;
+    let act = read_spelled(coloured, name, &mut words)?;
     let head = three_numbers::<ExactWords>(&head)?;
     Ok((head, act))
 }

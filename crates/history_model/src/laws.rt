@@ -2,7 +2,7 @@ ghost use Rattle.std.specs.Prelude.{◌≡◌, ℕ, List};
 ghost use Rattle.history_model.specs.Contents.{Content, AreModels};
 ghost use Rattle.history_model.specs.Journal.{journal_of};
 ghost use Rattle.history_model.specs.Logs.{Log, IsLegal, SuitsTints};
-ghost use Rattle.history_model.specs.Entries.{IsSide, IsTold};
+ghost use Rattle.history_model.specs.Entries.{IsSide, HasJournal};
 ghost use Rattle.history_model.specs.Refusals.{RefusesJournal};
 ghost use Rattle.history_model.specs.Signing.{AreSigned};
 ghost use Rattle.history_model.specs.declared.reading.JournalFault.TheVariants.{Line};
@@ -16,12 +16,12 @@ ghost use Rattle.history_model.specs.declared.reading.JournalFault.TheVariants.{
 pub fn legal_histories_can_be_told()
     ensures { (side : ℕ) (models : List Content) (log : Log) → IsSide log.coloured log.side
         → AreModels models → IsLegal side models log → AreSigned log → SuitsTints log
-        → IsTold log }
+        → HasJournal log }
 {}
 
 /// A law: a text is the journal of one history at most.
 pub fn journals_tell_one_history()
-    ensures { (a b : Log) → IsTold a → IsTold b → journal_of a ≡ journal_of b → a ≡ b }
+    ensures { (a b : Log) → HasJournal a → HasJournal b → journal_of a ≡ journal_of b → a ≡ b }
 {}
 
 /// A law: the line that a refused text is told by is one.

@@ -10,7 +10,7 @@ ghost use Rattle.history_model.specs.Stores.{edited_in};
 ghost use Rattle.history_model.specs.Worlds.{World, is_edit, is_in_stamp, less, plus};
 
 use crate::acts::{Act, TintAct};
-use crate::parts::{Made, part, part_number};
+use crate::parts::{CellSource, part, part_number};
 use vox_read::{Models, Voxel};
 use vw_cell::{Boxed, Cell, Side};
 
@@ -136,8 +136,8 @@ fn is_made<F: Fn(Cell) -> bool>(n: u16, models: &Models, act: &TintAct, first: &
     let mut at = q;
     for done in 0..parts {
         match part(n, models, act, parts - 1 - done, at) {
-            Made::Fixed(set) => return set,
-            Made::Read(p) => at = p,
+            CellSource::Fixed(set) => return set,
+            CellSource::Read(p) => at = p,
         }
     }
     first(at)

@@ -8,7 +8,7 @@ ghost use Rattle.history_model.specs.Logs.{TintFits};
 ghost use Rattle.history_model.specs.Tints.{Tints, ink_of, stamp_tint};
 ghost use Rattle.history_model.specs.Planes.{tells, plane_at};
 ghost use Rattle.history_model.specs.Parts.{part, part_number, put};
-ghost use Rattle.history_model.specs.Making.{TellsMade, ReadsIn, plane_of, part_edit, stamp_edit};
+ghost use Rattle.history_model.specs.Making.{IsCellSource, ReadsIn, plane_of, part_edit, stamp_edit};
 
 use crate::acts::TintAct;
 use crate::making::{from_corner, moved};
@@ -17,7 +17,7 @@ use vw_cell::{Boxed, Cell};
 
 // What an edit makes of a cell: it is set or not, or as this cell was before.
 #[derive(Clone, Copy)]
-pub(crate) enum Made {
+pub(crate) enum CellSource {
     Fixed(bool),
     Read(Cell),
 }
@@ -35,22 +35,22 @@ pub(crate) fn part_number(act: &TintAct) -> u8
 
 // What part k of the act makes of a cell of the store that keeps the tints of a world of side n.
 #[tactic(auto, using(crate::proofs::PartLaws::part_outside, crate::proofs::PartLaws::part_fixed, crate::proofs::PartLaws::part_read))]
-pub(crate) fn part(n: u16, models: &Models, act: &TintAct, k: u8, q: Cell) -> Made
+pub(crate) fn part(n: u16, models: &Models, act: &TintAct, k: u8, q: Cell) -> CellSource
     requires n { n ≤ 1024 }
     requires fits { TintFits n models.now act.now }
     requires number { k < part_number act.now }
-    ensures { TellsMade (part n (ink_of models.now act.now) act.now k) q result }
+    ensures { IsCellSource (part n (ink_of models.now act.now) act.now k) q result }
 {
     let plane = plane_of(act, k);
     let corner = plane_at(n, plane);
     let size = Cell { x: n, y: n, z: n };
     let cube = Boxed { at: corner, size };
     if !cube.has(q) {
-        return Made::Read(q);
+        return CellSource::Read(q);
     }
     match plane_edit(models, act, n, k, from_corner(q, corner)) {
-        Made::Fixed(set) => Made::Fixed(set),
-        Made::Read(p) => Made::Read(plus(corner, p)),
+        CellSource::Fixed(set) => CellSource::Fixed(set),
+        CellSource::Read(p) => CellSource::Read(plus(corner, p)),
     }
 }
 
@@ -96,12 +96,12 @@ fn bit_at(n: u16, bit: u8) -> Cell
 }
 
 // What part k of the act makes of a cell of its plane, told from the plane's corner.
-fn plane_edit(models: &Models, act: &TintAct, n: u16, k: u8, p: Cell) -> Made
+fn plane_edit(models: &Models, act: &TintAct, n: u16, k: u8, p: Cell) -> CellSource
     requires n { n ≤ 1024 }
     requires fits { TintFits n models.now act.now }
     requires number { k < part_number act.now }
     requires inside { IsInWorld n p }
-    ensures made { TellsMade (part_edit (ink_of models.now act.now) act.now k) p result }
+    ensures made { IsCellSource (part_edit (ink_of models.now act.now) act.now k) p result }
     ensures reads { ReadsIn n result }
 {
     match act {
@@ -115,19 +115,23 @@ fn plane_edit(models: &Models, act: &TintAct, n: u16, k: u8, p: Cell) -> Made
 }
 
 // What comes of a cell where the cells of a test are set or cleared.
-fn put(has: bool, set: bool, p: Cell) -> Made
-    ensures made { (test : cell → Bool) → has ≡ test p → TellsMade (put set test) p result }
+fn put(has: bool, set: bool, p: Cell) -> CellSource
+    ensures made { (test : cell → Bool) → has ≡ test p → IsCellSource (put set test) p result }
     ensures reads { (n : ℕ) → IsInWorld n p → ReadsIn n result }
 {
-    if has { Made::Fixed(set) } else { Made::Read(p) }
+    if has {
+        CellSource::Fixed(set)
+    } else {
+        CellSource::Read(p)
+    }
 }
 
 // What comes of a cell by a copy.
-fn copied(b: Boxed, to: Cell, n: u16, p: Cell) -> Made
+fn copied(b: Boxed, to: Cell, n: u16, p: Cell) -> CellSource
     requires n { n ≤ 1024 }
     requires fits { FitsAt b.at b.size n }
     requires inside { IsInWorld n p }
-    ensures made { TellsMade (copied b to) p result }
+    ensures made { IsCellSource (copied b to) p result }
     ensures reads { ReadsIn n result }
 {
     let there = Boxed {
@@ -135,15 +139,15 @@ fn copied(b: Boxed, to: Cell, n: u16, p: Cell) -> Made
         size: b.size,
     };
     if there.has(p) {
-        return Made::Read(moved(b, to, p));
+        return CellSource::Read(moved(b, to, p));
     }
-    Made::Read(p)
+    CellSource::Read(p)
 }
 
 // What part k of a stamp makes of a cell with this ink: even parts set it, and odd ones clear it.
-fn stamped(ink: u8, k: u8, p: Cell) -> Made
+fn stamped(ink: u8, k: u8, p: Cell) -> CellSource
     requires { k < 17 }
-    ensures made { (all : Tints) → ink ≡ all p → TellsMade (stamp_edit all k) p result }
+    ensures made { (all : Tints) → ink ≡ all p → IsCellSource (stamp_edit all k) p result }
     ensures reads { (n : ℕ) → IsInWorld n p → ReadsIn n result }
 {
     if k % 2 == 1 {

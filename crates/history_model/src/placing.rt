@@ -4,7 +4,7 @@ ghost use Rattle.vw_cell.specs.Places.{FitsAt, IsInWorld};
 ghost use Rattle.history_model.specs.Worlds.{box_at};
 ghost use Rattle.history_model.specs.Tints.{IsTint};
 ghost use Rattle.history_model.specs.Reach.{GivesWhere, ActLiesIn, TakesTint};
-ghost use Rattle.history_model.specs.Spelled.{act_of, act_told};
+ghost use Rattle.history_model.specs.Spelled.{act_of, spelled_act};
 ghost use Rattle.history_model.specs.Spelling.{IsLarge, tinted_act};
 
 use crate::acts::{Act, TintAct};
@@ -29,11 +29,11 @@ pub(crate) fn place(spelled: &Spelled, side: Side) -> Option<Act>
 
 /// The act that was spelled, with its tint in a coloured history, where it lies in a store of this
 /// side.
-pub(crate) fn place_told(spelled: &SpelledTint, side: Side, coloured: bool) -> Option<Act>
+pub(crate) fn place_spelled(spelled: &SpelledTint, side: Side, coloured: bool) -> Option<Act>
     requires { coloured ≡ true → 4 ≤ side }
     ensures { GivesWhere
-        (ActLiesIn (2 ^ side) (act_told coloured spelled.now))
-        (act_told coloured spelled.now)
+        (ActLiesIn (2 ^ side) (spelled_act coloured spelled.now))
+        (spelled_act coloured spelled.now)
         result }
 {
     if coloured {
@@ -47,8 +47,8 @@ pub(crate) fn place_told(spelled: &SpelledTint, side: Side, coloured: bool) -> O
 fn place_tinted(spelled: &SpelledTint, side: Side) -> Option<Act>
     requires { 4 ≤ side }
     ensures { GivesWhere
-        (ActLiesIn (2 ^ side) (act_told true spelled.now))
-        (act_told true spelled.now)
+        (ActLiesIn (2 ^ side) (spelled_act true spelled.now))
+        (spelled_act true spelled.now)
         result }
 {
     let act = place(&spelled.act, quarter(side))?;

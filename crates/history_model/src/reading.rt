@@ -4,7 +4,7 @@ ghost use Rattle.history_model.specs.declared.reading.JournalFault.TheVariants.{
 ghost use Rattle.history_model.specs.Logs.{Log};
 ghost use Rattle.history_model.specs.Journal.{journal_of, header};
 ghost use Rattle.history_model.specs.Packing.{Reads};
-ghost use Rattle.history_model.specs.Entries.{IsTold, IsSide, IsRecord, IsNextMark, side_list, record_list, mark_list, begun, front_lines, last_lines, next_version};
+ghost use Rattle.history_model.specs.Entries.{HasJournal, IsSide, IsRecord, IsNextMark, side_list, record_list, mark_list, begun, front_lines, last_lines, next_version};
 ghost use Rattle.history_model.specs.Following.{NoRecordIn, RecordIn};
 ghost use Rattle.history_model.specs.Refusals.{RefusesJournal, RefusesEntry, RefusesLines};
 
@@ -54,9 +54,9 @@ const RECORDS: usize = 65_535;
 /// The history that a journal tells, or the first line that doesn't fit. Whether its undos, redos
 /// and marks are legal is not asked here.
 pub fn read_journal(alloc: Global, bytes: &[u8]) -> Result<History, JournalFault>
-    ensures read { IfOk result (λ h. IsTold h × (bytes.now ≡ journal_of h)) }
+    ensures read { IfOk result (λ h. HasJournal h × (bytes.now ≡ journal_of h)) }
     ensures refused { IfErr result (λ fault. RefusesJournal fault bytes.now) }
-    ensures comes { (log : Log) → IsTold log → bytes.now ≡ journal_of log
+    ensures comes { (log : Log) → HasJournal log → bytes.now ≡ journal_of log
         → MatchResult result (λ h. h ≡ log) (λ fault. fault ≡ Memory) }
 {
     match read_head(bytes) {
@@ -73,7 +73,7 @@ fn read_entries(
     entries: &[u8],
 ) -> Result<History, JournalFault>
     requires { IsSide coloured side }
-    ensures read { IfOk result (λ h. IsTold h
+    ensures read { IfOk result (λ h. HasJournal h
         × (begun coloured side ++ lines entries.now ≡ front_lines h ++ last_lines)) }
     ensures refused { IfErr result
         (λ fault. RefusesLines fault (begun coloured side ++ lines entries.now)) }
@@ -138,9 +138,9 @@ fn read_second(bytes: &[u8], coloured: bool) -> Result<(Side, bool, &[u8]), Jour
 
 // Adds the record or the mark of the line.
 fn add_entry(history: &mut History, line: &[u8]) -> Result<(), JournalFault>
-    requires { IsTold history.old }
+    requires { HasJournal history.old }
     ensures { MatchResult result
-        (λ _. IsTold history.new
+        (λ _. HasJournal history.new
         × (front_lines history.new ≡ front_lines history.old ++ line.now ∷ []))
         (λ fault. RefusesEntry fault history.old line.now) }
 {
@@ -159,7 +159,7 @@ fn add_entry(history: &mut History, line: &[u8]) -> Result<(), JournalFault>
 
 // The record of the line, where one can follow.
 fn next_record(history: &History, line: &[u8]) -> Option<Record>
-    requires { IsTold history.now }
+    requires { HasJournal history.now }
     ensures { MatchOption result (NoRecordIn history.now line.now) (RecordIn history.now line.now) }
 {
     let count = history.records.len();
@@ -171,7 +171,7 @@ fn next_record(history: &History, line: &[u8]) -> Option<Record>
 
 // The mark of the line, where one can follow.
 fn next_mark(history: &History, line: &[u8]) -> Option<Mark>
-    requires { IsTold history.now }
+    requires { HasJournal history.now }
     ensures { Reads
         (IsNextMark (length history.now.records) (next_version 0 history.now.marks))
         mark_list
@@ -196,7 +196,7 @@ fn least_version(marks: &[Mark]) -> u32
 
 // The number of the line that follows.
 fn line_number(history: &History) -> u32
-    requires { IsTold history.now }
+    requires { HasJournal history.now }
     ensures number { result ≡ length (front_lines history.now) + 1 }
     ensures small { result ≤ 131073 }
 {

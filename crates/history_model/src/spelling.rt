@@ -2,7 +2,7 @@ ghost use Rattle.plain_text.specs.Steps.{Gives};
 ghost use Rattle.history_model.specs.Worlds.{box_at};
 ghost use Rattle.history_model.specs.Spelling.{three_numbers, box_spelled, ball_spelled, fill_spelled, erase_spelled, full_ball_spelled, carve_spelled, alone_spelled, copy_spelled, places_spelled, stamp_spelled, act_spelled, spelled_by, tint_spelled, tint_fill_spelled, tint_ball_spelled};
 ghost use Rattle.std.specs.Prelude.{true};
-ghost use Rattle.history_model.specs.Spelled.{act_of, act_told};
+ghost use Rattle.history_model.specs.Spelled.{act_of, spelled_act};
 
 use plain_text::{
     ThreeWords, WordFault, WordSource, must_be, number_by, take_end, take_three, take_word,
@@ -99,13 +99,13 @@ pub fn read_act<'l, W: WordSource<'l>>(name: &[u8], words: &mut W) -> Result<Spe
 
 /// The same in a history that is coloured or not. In a coloured one a fill and a ball have their
 /// tint as a last number.
-pub fn read_told<'l, W: WordSource<'l>>(
+pub fn read_spelled<'l, W: WordSource<'l>>(
     coloured: bool,
     name: &[u8],
     words: &mut W,
 ) -> Result<SpelledTint, WordFault>
     ensures { Gives
-        (act_told coloured)
+        (spelled_act coloured)
         result
         (spelled_by coloured W.spells name.now (W.words words.old)) }
 {
@@ -118,7 +118,7 @@ pub fn read_told<'l, W: WordSource<'l>>(
 
 #[tactic(auto, unfolding(crate::specs::Spelling::tint_spelled))]
 fn read_tinted<'l, W: WordSource<'l>>(name: &[u8], words: &mut W) -> Result<SpelledTint, WordFault>
-    ensures { Gives (act_told true) result (tint_spelled W.spells name.now (W.words words.old)) }
+    ensures { Gives (spelled_act true) result (tint_spelled W.spells name.now (W.words words.old)) }
 {
     if name == FILL {
         return read_tint_fill(words);
@@ -132,7 +132,7 @@ fn read_tinted<'l, W: WordSource<'l>>(name: &[u8], words: &mut W) -> Result<Spel
 
 #[tactic(auto, unfolding(crate::specs::Spelling::tint_fill_spelled))]
 fn read_tint_fill<'l, W: WordSource<'l>>(words: &mut W) -> Result<SpelledTint, WordFault>
-    ensures { Gives (act_told true) result (tint_fill_spelled W.spells (W.words words.old)) }
+    ensures { Gives (spelled_act true) result (tint_fill_spelled W.spells (W.words words.old)) }
 {
     let at = take_three(words)?;
     let size = take_three(words)?;
@@ -147,7 +147,7 @@ fn read_tint_fill<'l, W: WordSource<'l>>(words: &mut W) -> Result<SpelledTint, W
 
 #[tactic(auto, unfolding(crate::specs::Spelling::tint_ball_spelled))]
 fn read_tint_ball<'l, W: WordSource<'l>>(words: &mut W) -> Result<SpelledTint, WordFault>
-    ensures { Gives (act_told true) result (tint_ball_spelled W.spells (W.words words.old)) }
+    ensures { Gives (spelled_act true) result (tint_ball_spelled W.spells (W.words words.old)) }
 {
     let centre = take_three(words)?;
     let radius = take_word(words)?;

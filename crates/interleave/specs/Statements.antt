@@ -5,7 +5,7 @@ use Rattle.vox_read.specs.Contents.{Content}
 use Rattle.node_words.specs.declared.shapes.names.Name.{Name}
 use Rattle.node_words.specs.Plans.{Layout}
 use Rattle.history_model.specs.Stores.{stored_in}
-use Rattle.core_laws.specs.contents.Versions.{IsKept, SameWorld}
+use Rattle.core_laws.specs.contents.Versions.{HoldsVersion, SameWorld}
 use Rattle.core_laws.specs.Events.{Frees}
 use Rattle.core_laws.specs.Soundness.{Sound}
 use Rattle.core_laws.specs.States.{State, Holds, IsLive, IsUnder, tree_of}
@@ -54,7 +54,7 @@ HaveSameCells p models state v w =
 -- two versions that are kept have one root just where their cells agree
 abbrev pub RootsTellCells : Layout → List Content → ℕ → List Event → Type 0
 RootsTellCells p models sessions events = ForStates p models sessions events
-    (λ state. (v w : ℕ) → IsKept state.log v → IsKept state.log w
+    (λ state. (v w : ℕ) → HoldsVersion state.log v → HoldsVersion state.log w
     → (HaveOneRoot state v w → HaveSameCells p models state v w)
     × (HaveSameCells p models state v w → HaveOneRoot state v w))
 

@@ -10,10 +10,10 @@ use Rattle.node_words.specs.Gathering.{Loses, LosesAll, MayHold}
 use Rattle.node_words.specs.Held.{AreHeld, HoldsName, IsHeld, name_in}
 use Rattle.node_table.specs.Views.{SeatView}
 use Rattle.node_table.specs.Acts.{FreesUnderTurn, LowersUnderTurn}
-use Rattle.intern.specs.Nodes.{IsHeldOver, IsKeptBelow}
+use Rattle.intern.specs.Nodes.{IsHeldOver, IsHeldBelow}
 
 -- a child of a node that is held besides
-module _ (v : SeatView) (n : Name) (kept : IsKeptBelow v.held (Some n)) where
+module _ (v : SeatView) (n : Name) (kept : IsHeldBelow v.held (Some n)) where
   there : (f : Tree → ℕ)
       → weight_of f (child_of kept.over kept.octant) ≡ f (child_of kept.over kept.octant)
   there f = weight_of-there f (child_of kept.over kept.octant) n kept.root
@@ -65,7 +65,7 @@ gave_one v w t n root e =
 -- where k of the shares went, the next child is kept below the node too
 pub next_kept : (old mid : List Tree) (children : List (Option Name)) (row : ℕ → Tree) (k : ℕ)
     → k < 8 → AreHeld old children row → IsHeldOver old row → LosesAll old row k mid
-    → IsKeptBelow mid (name_in children k)
+    → IsHeldBelow mid (name_in children k)
 next_kept old mid children row k lt are over gone =
     let child : child_of over.over k ≡ row k = over.children k lt in
     record {

@@ -1,4 +1,4 @@
-use Rattle.node_table.specs.Seen.{bucket_named, PassSeen}
+use Rattle.node_table.specs.TableStates.{bucket_named, PassState}
 use Rattle.std.specs.Prelude.{slice_index}
 use Rattle.node_table.proofs.PartA.{same_bucket}
 use Rattle.node_words.proofs.OfShapes.TreeEqual.{same_name}
@@ -7,8 +7,8 @@ use Rattle.node_table.specs.Acts.{AreChildrenOf, RaisesUnderTurn, PublishesUnder
 use Rattle.node_table.specs.Names.{named}
 use Rattle.node_table.specs.Views.{SeatView, BucketAt, bucket_of}
 use Rattle.node_table.specs.Rules.{SameSession}
-use Rattle.node_table.specs.Telling.{ViewTells, tree_word}
-use Rattle.node_table.specs.Changes.{turned, wanted, children_of_key, HasKeyWords, PassesEntry, PassesBelow}
+use Rattle.node_table.specs.ViewFacts.{ViewFacts, tree_word}
+use Rattle.node_table.specs.Changes.{under_turn, wanted, children_of_key, HasKeyWords, PassesEntry, PassesBelow}
 use Rattle.node_words.specs.Plans.{Layout}
 use Rattle.node_table.specs.Learning.{IsLowestKnownFree}
 use Rattle.node_table.proofs.Answering.{Keeps, answers_keep}
@@ -28,10 +28,10 @@ use Rattle.node_words.specs.declared.keys.Key.TheVariants.{Leaf}
 use Rattle.node_words.specs.declared.shares.Full.{Full}
 use Rattle.node_words.specs.Held.{IsSought, name_in, IsHeld, IsReached, HoldsChildren, Wanted, Gains, AreHeld}
 use Rattle.node_words.proofs.HeldLaws.{gains_keeps, gains_held, reached_more, held_reached, reached_levels}
-use Rattle.node_table.specs.Spots.{key_words, buckets_at}
+use Rattle.node_table.specs.WordIds.{key_words, buckets_at}
 use Rattle.node_table.specs.Soundness.{FitsLevel}
 use Rattle.node_table.specs.declared.places.Place.{Place}
-use Rattle.intern.specs.Leaves.{LeafCame, LeafRefused}
+use Rattle.intern.specs.Leaves.{InternsLeaf, LeafRefused}
 
 level_zero : (l : ℕ) (n : Name) (bits : ℕ) → l ≡ n.level → IsTreeAt l (LeafAt n bits) → n.level ≡ 0
 unfolding IsTreeAt
@@ -39,13 +39,13 @@ level_zero zero n bits e is = sym e
 level_zero (suc l) n bits e is = absurd is.0
 
 -- a leaf that is reached is of level 0
-leaf_level : (v : SeatView) (n : Name) (bits : ℕ) → ViewTells v → IsReached v.held (LeafAt n bits)
+leaf_level : (v : SeatView) (n : Name) (bits : ℕ) → ViewFacts v → IsReached v.held (LeafAt n bits)
     → n.level ≡ 0
 leaf_level v n bits tells r =
     level_zero n.level n bits refl
     (reached_levels v.plan.side v.held (LeafAt n bits) n tells.trees r refl).levels
 
-leaf_tree : (v : SeatView) (t : Tree) (n : Name) (bits : ℕ) → ViewTells v → IsHeld v.held t
+leaf_tree : (v : SeatView) (t : Tree) (n : Name) (bits : ℕ) → ViewFacts v → IsHeld v.held t
     → root_of t ≡ Some n → n.level ≡ 0 → bits ≡ tree_word t 0 → t ≡ LeafAt n bits
 leaf_tree v t n bits tells h root level word =
     let levels =
@@ -56,7 +56,7 @@ leaf_tree v t n bits tells h root level word =
     is ∙ ap (λ (b : ℕ). LeafAt n b) (sym same)
 
 -- two leaves with the same bits that are reached are one
-one_leaf : (v : SeatView) (m n : Name) (bits : ℕ) → ViewTells v → IsReached v.held (LeafAt m bits)
+one_leaf : (v : SeatView) (m n : Name) (bits : ℕ) → ViewFacts v → IsReached v.held (LeafAt m bits)
     → IsReached v.held (LeafAt n bits) → m ≡ n
 one_leaf v m n bits tells a b =
     tells.once (LeafAt m bits) m a refl (LeafAt n bits) n b refl
@@ -64,7 +64,7 @@ one_leaf v m n bits tells a b =
     (shape_of-leaf m bits ∙ sym (shape_of-leaf n bits))
 
 -- where no slot of the bucket has the bits, no leaf with them is reached
-pub absent : (v : SeatView) (bits bucket : ℕ) → ViewTells v
+pub absent : (v : SeatView) (bits bucket : ℕ) → ViewFacts v
     → v.turn ≡ Some (record { level = 0; bucket = bucket })
     → bucket ≡ leaf_bucket bits (slice_index v.plan.buckets 0)
     → PassesBelow v.words (Leaf bits) (record { level = 0; bucket = bucket }) v.plan.cap
@@ -114,8 +114,8 @@ same_on u v w a b =
 
 -- a live entry had the bits
 pub shared : (v u w : SeatView) (bits bucket : ℕ) (n : Name) → Searched v u bucket → u.met ≡ v.met
-    → n.level ≡ 0 → HasKeyWords u.words (Leaf bits) n → RaisesUnderTurn u n w → ViewTells w
-    → LeafCame v bits n w
+    → n.level ≡ 0 → HasKeyWords u.words (Leaf bits) n → RaisesUnderTurn u n w → ViewFacts w
+    → InternsLeaf v bits n w
 shared v u w bits bucket n s met level has r tells =
     let is = r.is in
     let held : w.held ≡ r.tree ∷ v.held =
@@ -173,7 +173,7 @@ no_children held =
 -- no entry had the bits, and one was added
 pub added : (v u w : SeatView) (bits bucket : ℕ) (n : Name) → Searched v u bucket → u.met ≡ v.met
     → n.level ≡ 0 → ((m : Name) → ¬ IsReached u.held (LeafAt m bits))
-    → PublishesUnderTurn u n (Leaf bits) (λ _. Gone) w → LeafCame v bits n w
+    → PublishesUnderTurn u n (Leaf bits) (λ _. Gone) w → InternsLeaf v bits n w
 added v u w bits bucket n s met level none p =
     let is = p.is in
     let held : w.held ≡ p.held = ap (λ (x : SeatView). x.held) is in
@@ -212,7 +212,7 @@ added v u w bits bucket n s met level none p =
 pub refused : (v u w : SeatView) (bits bucket : ℕ) (full : Full) → Searched v u bucket
     → ((m : Name) → ¬ IsReached u.held (LeafAt m bits))
     → u.met ≡ record { level = 0; bucket = bucket; shape = shape.Leaf bits } ∷ v.met
-    → full.level ≡ 0 → full.bucket ≡ bucket → w ≡ turned u None
+    → full.level ≡ 0 → full.bucket ≡ bucket → w ≡ under_turn u None
     → IsSought v.plan (record { level = 0; bucket = bucket; shape = shape.Leaf bits })
     → LeafRefused v bits full w
 refused v u w bits bucket full s none met level at is sought =
@@ -246,8 +246,8 @@ refused v u w bits bucket full s none met level at is sought =
       unreached = λ m h. none m (subst (λ ts. IsReached ts (LeafAt m bits)) (sym s.held) h);
     }
 
-pub searched : (v : SeatView) (s t : PassSeen) (bucket : ℕ)
-    → s.view ≡ turned v (Some (bucket_named 0 bucket)) → Keeps s t → Searched v t.view bucket
+pub searched : (v : SeatView) (s t : PassState) (bucket : ℕ)
+    → s.view ≡ under_turn v (Some (bucket_named 0 bucket)) → Keeps s t → Searched v t.view bucket
 searched v s t bucket is k = record {
   session = same_on v s.view t.view
       (record {
@@ -300,7 +300,7 @@ pub leaf_children : (children : List (Option Name)) (bits : ℕ)
 leaf_children children bits none = record { each = λ k lt. none k }
 
 -- a search leaves the plan
-pub kept_plan : (s t : PassSeen) (key : keys.Key) (b : BucketAt) (p : Layout) (place : Place)
+pub kept_plan : (s t : PassState) (key : keys.Key) (b : BucketAt) (p : Layout) (place : Place)
     → HoldsChildren s.view.held (children_of_key key) → FindsPlace p s t key b place
     → t.view.plan ≡ s.view.plan
 kept_plan s t key b p place h a = (answers_keep p s t key b place h a).same.session.plan

@@ -22,26 +22,26 @@ use Rattle.node_words.proofs.HeldLaws.{child_level, children_canonical, gains_he
 use Rattle.node_words.proofs.KeyLaws.{key_bucket}
 use Rattle.core_laws.specs.places.KeyWords.{key_word}
 use Rattle.core_laws.specs.places.Names.{IsName, named}
-use Rattle.core_laws.specs.places.Spots.{Spot, key_words}
+use Rattle.core_laws.specs.places.WordIds.{WordId, key_words}
 use Rattle.core_laws.specs.places.Words.{IsChildAt, word_of_child}
 use Rattle.core_laws.proofs.OfPlaces.Children.{one_child}
 use Rattle.node_table.proofs.PartA.{same_bucket}
 use Rattle.node_table.specs.Rules.{SameSession}
-use Rattle.node_table.specs.Telling.{ViewTells, tree_word, pair_of_children}
+use Rattle.node_table.specs.ViewFacts.{ViewFacts, tree_word, pair_of_children}
 use Rattle.node_table.specs.Views.{BucketAt, SeatView, bucket_of}
-use Rattle.node_table.specs.Changes.{HasKeyWords, PassesBelow, PassesEntry, turned, wanted}
+use Rattle.node_table.specs.Changes.{HasKeyWords, PassesBelow, PassesEntry, under_turn, wanted}
 use Rattle.node_table.proofs.Answering.{Keeps}
 use Rattle.node_table.proofs.OnlyShares.{session_on}
 use Rattle.node_table.proofs.ReadLaws.{child_fits, child_small, node_word}
 use Rattle.node_table.specs.Acts.{OnlySharesChange, PublishesUnderTurn, RaisesUnderTurn}
-use Rattle.node_table.specs.Seen.{PassSeen, TableSeen, bucket_named}
-use Rattle.intern.specs.Nodes.{HoldsBelow, IsHeldOver, NodeCame, NodeIsRefused}
+use Rattle.node_table.specs.TableStates.{PassState, TableState, bucket_named}
+use Rattle.intern.specs.Nodes.{HoldsBelow, IsHeldOver, InternsNode, NodeIsRefused}
 
 -- what is asked of a call for a node
 pub record Asks (v : SeatView) (level : ℕ) (names : List (Option Name))
     (row : ℕ → Tree) : Type 0 where
   pub plan : IsPlan v.plan
-  pub tells : ViewTells v
+  pub tells : ViewFacts v
   pub eight : length names ≡ 8
   pub above : 1 ≤ level
   pub some : HasChild names
@@ -109,7 +109,7 @@ level_above zero m row is = absurd is
 level_above (suc l) m row is = omega arith
 
 pub asks : (v : SeatView) (p : Layout) (level : ℕ) (names children : List (Option Name))
-    (row : ℕ → Tree) → IsPlan p → v.plan ≡ p → ViewTells v → names ≡ children
+    (row : ℕ → Tree) → IsPlan p → v.plan ≡ p → ViewFacts v → names ≡ children
     → length children ≡ 8 → 1 ≤ level → HasChild children → AreBelow level children
     → AreHeld v.held children row → Asks v level names row
 asks v p level names children row plan same tells e eight above some below are = record {
@@ -213,7 +213,7 @@ words_of_node (suc l) h = refl
 
 -- where no slot of the bucket has the key, no such node is reached
 pub absent : (v u : SeatView) (level bucket : ℕ) (names : List (Option Name)) (row : ℕ → Tree)
-    → Asks v level names row → ViewTells u → u.held ≡ v.held
+    → Asks v level names row → ViewFacts u → u.held ≡ v.held
     → u.turn ≡ Some (bucket_named level bucket)
     → bucket ≡ bucket_of_key (Node names) (slice_index v.plan.buckets level)
     → PassesBelow u.words (Node names) (bucket_named level bucket) v.plan.cap
@@ -257,7 +257,7 @@ pub record NodeSearched (v u : SeatView) (level bucket : ℕ) : Type 0 where
 module _ (v u w : SeatView) (level bucket : ℕ) (names : List (Option Name)) (row : ℕ → Tree)
     (n : Name) (q : Asks v level names row) (s : NodeSearched v u level bucket)
     (at : n.level ≡ level) (has : HasKeyWords u.words (Node names) n) (r : RaisesUnderTurn u n w)
-    (tells : ViewTells w) where
+    (tells : ViewFacts w) where
   above : 1 ≤ n.level
   above = (let a = q.above in omega arith)
 
@@ -350,7 +350,7 @@ module _ (v u w : SeatView) (level bucket : ℕ) (names : List (Option Name)) (r
 
   -- and then the shares of the row went
   pub shared : (z : SeatView) → u.met ≡ v.met → OnlySharesChange w z → LosesAll w.held row 8 z.held
-      → NodeCame v level row n z
+      → InternsNode v level row n z
   shared z met only gone =
       let is = r.is in
       let session = session_on v w z
@@ -390,9 +390,9 @@ module _ (v u w : SeatView) (level bucket : ℕ) (names : List (Option Name)) (r
 module _ (v u w x : SeatView) (level bucket : ℕ) (names children : List (Option Name))
     (row : ℕ → Tree) (n : Name) (q : Asks v level names row) (s : NodeSearched v u level bucket)
     (at : n.level ≡ level) (has : HasKeyWords u.words (Node names) n) (r : RaisesUnderTurn u n w)
-    (now : x ≡ w) (tells : ViewTells x) (e : names ≡ children) where
-  tells_then : ViewTells w
-  tells_then = subst ViewTells now tells
+    (now : x ≡ w) (tells : ViewFacts x) (e : names ≡ children) where
+  tells_then : ViewFacts w
+  tells_then = subst ViewFacts now tells
 
   are_then : AreHeld w.held children row
   are_then =
@@ -412,9 +412,9 @@ module _ (v u w x : SeatView) (level bucket : ℕ) (names children : List (Optio
       let same = ap (λ (y : SeatView). number_of_trees y.held) now in omega arith)
 
   pub shared_now : (m : Name) (z : SeatView) → m ≡ n → u.met ≡ v.met → OnlySharesChange x z
-      → (AreHeld x.held children row → LosesAll x.held row 8 z.held) → NodeCame v level row m z
+      → (AreHeld x.held children row → LosesAll x.held row 8 z.held) → InternsNode v level row m z
   shared_now m z name met only gone =
-      subst (λ (k : Name). NodeCame v level row k z) (sym name)
+      subst (λ (k : Name). InternsNode v level row k z) (sym name)
       (shared v u w level bucket names row n q s at has r tells_then z met
       (subst (λ (y : SeatView). OnlySharesChange y z) now only)
       (subst (λ (y : SeatView). LosesAll y.held row 8 z.held) now
@@ -424,7 +424,7 @@ module _ (v u w x : SeatView) (level bucket : ℕ) (names children : List (Optio
 pub added : (v u w : SeatView) (level bucket : ℕ) (names : List (Option Name)) (row : ℕ → Tree)
     (n : Name) → NodeSearched v u level bucket → u.met ≡ v.met → n.level ≡ level
     → ((m : Name) → ¬ IsReached v.held (node_at m row))
-    → PublishesUnderTurn u n (Node names) row w → NodeCame v level row n w
+    → PublishesUnderTurn u n (Node names) row w → InternsNode v level row n w
 added v u w level bucket names row n s met at none p =
     let is = p.is in
     let session = session_on v u w s.session (record {
@@ -454,16 +454,16 @@ added v u w level bucket names row n s met at none p =
 pub added_now : (v u w x : SeatView) (level bucket : ℕ) (names : List (Option Name))
     (row : ℕ → Tree) (m n : Name) → NodeSearched v u level bucket → u.met ≡ v.met
     → n.level ≡ level → ((k : Name) → ¬ IsReached v.held (node_at k row))
-    → PublishesUnderTurn u n (Node names) row w → x ≡ w → m ≡ n → NodeCame v level row m x
+    → PublishesUnderTurn u n (Node names) row w → x ≡ w → m ≡ n → InternsNode v level row m x
 added_now v u w x level bucket names row m n s met at none p now name =
-    subst (λ (y : SeatView × Name). NodeCame v level row y.1 y.0) (λ i. (sym now i, sym name i))
+    subst (λ (y : SeatView × Name). InternsNode v level row y.1 y.0) (λ i. (sym now i, sym name i))
     (added v u w level bucket names row n s met at none p)
 
 -- a full bucket was met
 pub refused : (v u w : SeatView) (level bucket : ℕ) (row : ℕ → Tree) (full : Full)
     → NodeSearched v u level bucket → ((m : Name) → ¬ IsReached v.held (node_at m row))
     → u.met ≡ row_wanted level bucket row ∷ v.met
-    → full.level ≡ level → full.bucket ≡ bucket → w ≡ turned u None
+    → full.level ≡ level → full.bucket ≡ bucket → w ≡ under_turn u None
     → IsSought v.plan (row_wanted level bucket row)
     → NodeIsRefused v level row full w
 refused v u w level bucket row full s none met at here is sought =
@@ -494,7 +494,7 @@ refused v u w level bucket row full s none met at here is sought =
 pub refused_now : (v u w x : SeatView) (level bucket : ℕ) (row : ℕ → Tree) (full : Full)
     → NodeSearched v u level bucket → ((m : Name) → ¬ IsReached v.held (node_at m row))
     → u.met ≡ row_wanted level bucket row ∷ v.met
-    → full.level ≡ level → full.bucket ≡ bucket → w ≡ turned u None
+    → full.level ≡ level → full.bucket ≡ bucket → w ≡ under_turn u None
     → IsSought v.plan (row_wanted level bucket row)
     → x ≡ w → NodeIsRefused v level row full x
 refused_now v u w x level bucket row full s none met at here is sought now =
@@ -502,30 +502,30 @@ refused_now v u w x level bucket row full s none met at here is sought now =
     (refused v u w level bucket row full s none met at here is sought)
 
 -- the key's bucket, by the plan of the view
-pub is_bucket : (v : SeatView) (t : TableSeen) (key : Key) (level bucket buckets : ℕ)
+pub is_bucket : (v : SeatView) (t : TableState) (key : Key) (level bucket buckets : ℕ)
     → v.plan ≡ t.plan → bucket ≡ bucket_of_key key buckets → buckets ≡ buckets_at t.plan level
     → bucket ≡ bucket_of_key key (slice_index v.plan.buckets level)
 is_bucket v t key level bucket buckets plan is number =
     is ∙ ap (bucket_of_key key) number
     ∙ ap (λ (p : Layout). bucket_of_key key (slice_index p.buckets level)) (sym plan)
 
-pub low_bucket : (v : SeatView) (t : TableSeen) (level bucket buckets : ℕ) → v.plan ≡ t.plan
+pub low_bucket : (v : SeatView) (t : TableState) (level bucket buckets : ℕ) → v.plan ≡ t.plan
     → bucket < buckets → buckets ≡ buckets_at t.plan level → bucket < buckets_at v.plan level
 low_bucket v t level bucket buckets plan low number =
     subst (λ (n : ℕ). bucket < n)
     (number ∙ ap (λ (p : Layout). slice_index p.buckets level) (sym plan)) low
 
-pub passes_here : (v : SeatView) (t u : TableSeen) (l b level bucket : ℕ)
-    (words : List (Spot × ℕ)) (names : List (Option Name)) → l ≡ level → b ≡ bucket → u ≡ t
+pub passes_here : (v : SeatView) (t u : TableState) (l b level bucket : ℕ)
+    (words : List (WordId × ℕ)) (names : List (Option Name)) → l ≡ level → b ≡ bucket → u ≡ t
     → v.plan ≡ t.plan → PassesBelow words (Node names) (bucket_named l b) u.plan.cap
     → PassesBelow words (Node names) (bucket_named level bucket) v.plan.cap
 passes_here v t u l b level bucket words names at here same plan h =
     subst (λ (x : ℕ × ℕ × Layout). PassesBelow words (Node names) (bucket_named x.0 x.1) x.2.cap)
-    (λ i. (at i, here i, (ap (λ (x : TableSeen). x.plan) same ∙ sym plan) i)) h
+    (λ i. (at i, here i, (ap (λ (x : TableState). x.plan) same ∙ sym plan) i)) h
 
 -- a search leaves all but words, and what met a full bucket
-pub node_searched : (v : SeatView) (s t : PassSeen) (level bucket : ℕ)
-    → s.view ≡ turned v (Some (bucket_named level bucket)) → Keeps s t
+pub node_searched : (v : SeatView) (s t : PassState) (level bucket : ℕ)
+    → s.view ≡ under_turn v (Some (bucket_named level bucket)) → Keeps s t
     → NodeSearched v t.view level bucket
 node_searched v s t level bucket is k = record {
   session = session_on v s.view t.view (record {

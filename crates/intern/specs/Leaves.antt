@@ -10,7 +10,7 @@ use Rattle.node_words.specs.Held.{IsReached, Gains, Grants, OnlyMeets}
 
 -- a share of the leaf came. One that was held, or stood below a held node, is that leaf, and then
 -- no entry was added
-pub record LeafCame (v : SeatView) (bits : ℕ) (n : Name) (w : SeatView) : Type 0 where
+pub record InternsLeaf (v : SeatView) (bits : ℕ) (n : Name) (w : SeatView) : Type 0 where
   pub session : SameSession v w
   pub turn : w.turn ≡ None
   pub log : w.log ≡ v.log

@@ -11,7 +11,7 @@ use Rattle.node_table.specs.Views.{SeatView, seen_of}
 
 -- the shares of the row went into a node over it, of which a share came. Where such a node was
 -- held, or stood below a held one, it is that node, and no entry was added
-pub record NodeCame (v : SeatView) (level : ℕ) (row : ℕ → Tree) (n : Name)
+pub record InternsNode (v : SeatView) (level : ℕ) (row : ℕ → Tree) (n : Name)
     (w : SeatView) : Type 0 where
   pub session : SameSession v w
   pub turn : w.turn ≡ None
@@ -45,7 +45,7 @@ pub record HoldsBelow (held : List Tree) (children : List (Option Name)) : Type 
   pub over : IsHeldOver held row
 
 -- what may be a child is held, where there is one, and a node over it is held besides
-pub record IsKeptBelow (held : List Tree) (child : Option Name) : Type 0 where
+pub record IsHeldBelow (held : List Tree) (child : Option Name) : Type 0 where
   pub over : Tree
   pub octant : ℕ
   pub root : root_of (child_of over octant) ≡ child

@@ -5,8 +5,8 @@ ghost use Rattle.node_words.specs.shapes.Weights.{number_of_trees};
 ghost use Rattle.node_words.specs.Gathering.{Loses, LosesAll, MayHold};
 ghost use Rattle.node_words.specs.Held.{ForChildren};
 ghost use Rattle.node_table.specs.Acts.{OnlySharesChange};
-ghost use Rattle.node_table.specs.Seen.{BelongsTo};
-ghost use Rattle.intern.specs.Nodes.{HoldsBelow, IsKeptBelow};
+ghost use Rattle.node_table.specs.TableStates.{BelongsTo};
+ghost use Rattle.intern.specs.Nodes.{HoldsBelow, IsHeldBelow};
 
 use node_table::{Lowering, NodeTable, Pass};
 use node_words::{Share, Steps, end_all, take_at};
@@ -49,7 +49,7 @@ fn give_kept<R: Wait, L: Ledger>(
 )
     requires of { BelongsTo table.now pass.old }
     requires idle { pass.old.view.turn ≡ None }
-    requires kept { IsKeptBelow pass.old.view.held child }
+    requires kept { IsHeldBelow pass.old.view.held child }
     requires room { number_of_trees pass.old.view.held ≤ 4089 }
     ensures of { BelongsTo table.now pass.new }
     ensures only { OnlySharesChange pass.old.view pass.new.view }

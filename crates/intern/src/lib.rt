@@ -12,8 +12,8 @@ ghost use Rattle.std.specs.Prelude.{◌≡◌, ◌≢◌, ◌≤◌, ◌+◌, �
 ghost use Rattle.node_words.specs.shapes.Weights.{number_of_trees};
 ghost use Rattle.node_words.specs.Held.{name_in};
 ghost use Rattle.node_words.specs.Plans.{IsPlan, buckets_at};
-ghost use Rattle.node_table.specs.Seen.{BelongsTo};
-ghost use Rattle.intern.specs.Leaves.{LeafCame, LeafRefused};
+ghost use Rattle.node_table.specs.TableStates.{BelongsTo};
+ghost use Rattle.intern.specs.Leaves.{InternsLeaf, LeafRefused};
 
 use node_table::{NodeTable, Pass, Place};
 use node_words::{Full, Key, Share, Steps, bucket_of};
@@ -35,7 +35,7 @@ pub fn leaf<R: Wait, L: Ledger>(
     requires bits { bits ≢ 0 }
     requires room { number_of_trees pass.old.view.held ≤ 4095 }
     ensures of { BelongsTo table.now pass.new }
-    ensures taken { MatchResult result (λ n. LeafCame pass.old.view bits n pass.new.view)
+    ensures taken { MatchResult result (λ n. InternsLeaf pass.old.view bits n pass.new.view)
         (λ e. LeafRefused pass.old.view bits e pass.new.view) }
     ensures turns { steps.new ≡ steps.old + 1 }
 {

@@ -2,8 +2,8 @@
 ghost use Rattle.std.specs.Prelude.{◌≡◌, ◌+◌, ◌≤◌, None, IfErr, MatchResult};
 ghost use Rattle.node_words.specs.shapes.Weights.{number_of_trees};
 ghost use Rattle.node_words.specs.Held.{AreBelow, ForChildren, HasChild, HoldsChildren};
-ghost use Rattle.node_table.specs.Seen.{BelongsTo};
-ghost use Rattle.intern.specs.Nodes.{NodeCame, NodeIsRefused};
+ghost use Rattle.node_table.specs.TableStates.{BelongsTo};
+ghost use Rattle.intern.specs.Nodes.{InternsNode, NodeIsRefused};
 
 use crate::buckets;
 use crate::giving::give_row;
@@ -31,7 +31,7 @@ pub fn node<R: Wait, L: Ledger>(
     requires room { number_of_trees pass.old.view.held ≤ 4088 }
     ensures of { BelongsTo table.now pass.new }
     ensures taken { ForChildren pass.old.view.held children
-        (λ row. MatchResult result (λ n. NodeCame pass.old.view level row n pass.new.view)
+        (λ row. MatchResult result (λ n. InternsNode pass.old.view level row n pass.new.view)
         (λ e. NodeIsRefused pass.old.view level row e.full pass.new.view)) }
     ensures back { IfErr result (λ e. e.children ≡ children) }
     ensures turns { steps.new ≤ steps.old + 9 }

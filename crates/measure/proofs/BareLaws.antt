@@ -11,7 +11,7 @@ use Rattle.node_words.specs.descent.Roots.{cells_of}
 use Rattle.node_words.specs.descent.Parts.{placed}
 use Rattle.vw_cell.specs.declared.directions.Direction.{Direction}
 use Rattle.vw_cell.specs.declared.directions.Direction.TheVariants.{LowX, HighX, LowY, HighY, LowZ, HighZ}
-use Rattle.measure.specs.Bare.{is_inside, next_place, place_beside, is_next_set, bare_of, other_half, is_low, across, stays, beside_shape}
+use Rattle.measure.specs.Exposed.{is_inside, next_place, place_beside, is_next_set, exposed_of, other_half, is_low, across, stays, beside_shape}
 use Rattle.measure.proofs.AxisLaws.{up_one, up_in, up_stay, up_over, up_out, up_first, down_one, down_in, down_stay, down_over, down_out, down_last}
 
 alike : (x y z x' y' z' : ℕ) → x ≡ x' → y ≡ y' → z ≡ z' → cell_at x y z ≡ cell_at x' y' z'
@@ -354,7 +354,7 @@ next_in d level s u o c lt i =
 
 bare_below : (d : Direction) (level : ℕ) (s u : Shape) (o : ℕ) (c : Cell) → o < 8
     → IsInWorld (block_side level) c
-    → bare_of d (suc level) s u (placed (block_side level) o c) ≡ bare_of d level (octant_shape s o)
+    → exposed_of d (suc level) s u (placed (block_side level) o c) ≡ exposed_of d level (octant_shape s o)
     (beside_shape d s u o) c
 bare_below d level s u o c lt i =
     ap (λ (set : Bool). set && not (is_next_set d (suc level) s u (placed (block_side level) o c)))
@@ -362,14 +362,14 @@ bare_below d level s u o c lt i =
     ∙ ap (λ (next : Bool). cells_of level (octant_shape s o) c && not next)
     (next_in d level s u o c lt i)
 
--- the bare cells of a block are those of its octants
+-- the exposed cells of a block are those of its octants
 pub bare_in : (d : Direction) (level : ℕ) (s u : Shape) (o : ℕ) (c : Cell) → 1 ≤ level → o < 8
     → IsInWorld (block_side (level - 1)) c
-    → bare_of d level s u (placed (block_side (level - 1)) o c) ≡ bare_of d (level - 1)
+    → exposed_of d level s u (placed (block_side (level - 1)) o c) ≡ exposed_of d (level - 1)
     (octant_shape s o) (beside_shape d s u o) c
 bare_in d level s u o c h lt i =
     let e : suc (level - 1) ≡ level = omega arith in
     let P : ℕ → Type 0 =
-    λ l. bare_of d l s u (placed (block_side (level - 1)) o c)
-    ≡ bare_of d (level - 1) (octant_shape s o) (beside_shape d s u o) c in
+    λ l. exposed_of d l s u (placed (block_side (level - 1)) o c)
+    ≡ exposed_of d (level - 1) (octant_shape s o) (beside_shape d s u o) c in
     subst P e (bare_below d (level - 1) s u o c lt i)

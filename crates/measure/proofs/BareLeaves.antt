@@ -1,4 +1,4 @@
--- The bare cells of a leaf.
+-- The exposed cells of a leaf.
 use Rattle.std.proofs.Common.{◌≡◌, ℕ, zero, suc, ◌+◌, ◌-◌, ◌%◌, ◌^◌, ◌<◌, Bool, min, List, [], ◌∷◌, refl, sym, ap, ◌∙◌, arith, inl, inr}
 use Rattle.std.specs.Prelude.{◌==◌, ◌&&◌, not, bit_and, slice_index}
 use Rattle.std.specs.Int.{bit_at, w64}
@@ -12,8 +12,8 @@ use Rattle.node_words.specs.descent.Roots.{cells_of}
 use Rattle.node_words.proofs.OfDescent.LookLaws.{leaf_tells}
 use Rattle.vw_cell.specs.declared.directions.Direction.{Direction}
 use Rattle.vw_cell.specs.declared.directions.Direction.TheVariants.{LowX, HighX, LowY, HighY, LowZ, HighZ}
-use Rattle.measure.specs.Leaves.{TellsCells}
-use Rattle.measure.specs.Bare.{bare_of, is_next_set}
+use Rattle.measure.specs.Leaves.{BitsPassTest}
+use Rattle.measure.specs.Exposed.{exposed_of, is_next_set}
 use Rattle.measure.proofs.BareLaws.{next_inside, next_beside}
 
 -- a bit that is set here and not there
@@ -44,7 +44,7 @@ window_shows leaves dx dy dz window x y z k p v across lx ly lz e f g =
 
 pub low_x_tells : (bits beside window : ℕ) (s u : Shape)
     → LiesAcross (beside ∷ bits ∷ 0 ∷ 0 ∷ 0 ∷ 0 ∷ 0 ∷ 0 ∷ []) 3 0 0 window → bits ≡ bits_of s
-    → beside ≡ bits_of u → TellsCells window (is_next_set LowX 0 s u)
+    → beside ≡ bits_of u → BitsPassTest window (is_next_set LowX 0 s u)
 low_x_tells bits beside window s u across e f = record {
   each = λ x y z lx ly lz. elim (cases_lt 0 x) [
     | inl h ↦ window_shows _ 3 0 0 window x y z 1 (cell_at (x - 1) y z) s across lx ly lz
@@ -56,7 +56,7 @@ low_x_tells bits beside window s u across e f = record {
 
 pub high_x_tells : (bits beside window : ℕ) (s u : Shape)
     → LiesAcross (bits ∷ beside ∷ 0 ∷ 0 ∷ 0 ∷ 0 ∷ 0 ∷ 0 ∷ []) 1 0 0 window → bits ≡ bits_of s
-    → beside ≡ bits_of u → TellsCells window (is_next_set HighX 0 s u)
+    → beside ≡ bits_of u → BitsPassTest window (is_next_set HighX 0 s u)
 high_x_tells bits beside window s u across e f = record {
   each = λ x y z lx ly lz. elim (cases_lt (x + 1) 4) [
     | inl h ↦ window_shows _ 1 0 0 window x y z 0 (cell_at (x + 1) y z) s across lx ly lz
@@ -69,7 +69,7 @@ high_x_tells bits beside window s u across e f = record {
 
 pub low_y_tells : (bits beside window : ℕ) (s u : Shape)
     → LiesAcross (beside ∷ 0 ∷ bits ∷ 0 ∷ 0 ∷ 0 ∷ 0 ∷ 0 ∷ []) 0 3 0 window → bits ≡ bits_of s
-    → beside ≡ bits_of u → TellsCells window (is_next_set LowY 0 s u)
+    → beside ≡ bits_of u → BitsPassTest window (is_next_set LowY 0 s u)
 low_y_tells bits beside window s u across e f = record {
   each = λ x y z lx ly lz. elim (cases_lt 0 y) [
     | inl h ↦ window_shows _ 0 3 0 window x y z 2 (cell_at x (y - 1) z) s across lx ly lz
@@ -81,7 +81,7 @@ low_y_tells bits beside window s u across e f = record {
 
 pub high_y_tells : (bits beside window : ℕ) (s u : Shape)
     → LiesAcross (bits ∷ 0 ∷ beside ∷ 0 ∷ 0 ∷ 0 ∷ 0 ∷ 0 ∷ []) 0 1 0 window → bits ≡ bits_of s
-    → beside ≡ bits_of u → TellsCells window (is_next_set HighY 0 s u)
+    → beside ≡ bits_of u → BitsPassTest window (is_next_set HighY 0 s u)
 high_y_tells bits beside window s u across e f = record {
   each = λ x y z lx ly lz. elim (cases_lt (y + 1) 4) [
     | inl h ↦ window_shows _ 0 1 0 window x y z 0 (cell_at x (y + 1) z) s across lx ly lz
@@ -94,7 +94,7 @@ high_y_tells bits beside window s u across e f = record {
 
 pub low_z_tells : (bits beside window : ℕ) (s u : Shape)
     → LiesAcross (beside ∷ 0 ∷ 0 ∷ 0 ∷ bits ∷ 0 ∷ 0 ∷ 0 ∷ []) 0 0 3 window → bits ≡ bits_of s
-    → beside ≡ bits_of u → TellsCells window (is_next_set LowZ 0 s u)
+    → beside ≡ bits_of u → BitsPassTest window (is_next_set LowZ 0 s u)
 low_z_tells bits beside window s u across e f = record {
   each = λ x y z lx ly lz. elim (cases_lt 0 z) [
     | inl h ↦ window_shows _ 0 0 3 window x y z 4 (cell_at x y (z - 1)) s across lx ly lz
@@ -106,7 +106,7 @@ low_z_tells bits beside window s u across e f = record {
 
 pub high_z_tells : (bits beside window : ℕ) (s u : Shape)
     → LiesAcross (bits ∷ 0 ∷ 0 ∷ 0 ∷ beside ∷ 0 ∷ 0 ∷ 0 ∷ []) 0 0 1 window → bits ≡ bits_of s
-    → beside ≡ bits_of u → TellsCells window (is_next_set HighZ 0 s u)
+    → beside ≡ bits_of u → BitsPassTest window (is_next_set HighZ 0 s u)
 high_z_tells bits beside window s u across e f = record {
   each = λ x y z lx ly lz. elim (cases_lt (z + 1) 4) [
     | inl h ↦ window_shows _ 0 0 1 window x y z 0 (cell_at x y (z + 1)) s across lx ly lz
@@ -119,8 +119,8 @@ high_z_tells bits beside window s u across e f = record {
 
 -- the bits that are set while their next ones aren't
 pub bare_tells : (d : Direction) (bits next : ℕ) (s u : Shape) → next < 2 ^ 64 → bits ≡ bits_of s
-    → TellsCells next (is_next_set d 0 s u)
-    → TellsCells (bit_and bits (2 ^ 64 - 1 - next)) (bare_of d 0 s u)
+    → BitsPassTest next (is_next_set d 0 s u)
+    → BitsPassTest (bit_and bits (2 ^ 64 - 1 - next)) (exposed_of d 0 s u)
 bare_tells d bits next s u small e tells = record {
   each = λ x y z lx ly lz.
       let n : ℕ = bit_number x y z in

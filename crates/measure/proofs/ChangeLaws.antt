@@ -13,13 +13,13 @@ use Rattle.node_words.specs.shapes.Shape.{Shape, bits_of, bit_number}
 use Rattle.node_words.specs.shapes.Tree.{Tree, shape_of, child_of}
 use Rattle.node_words.proofs.OfShapes.ShapeLaws.{has-clear}
 use Rattle.node_words.proofs.OfShapes.TreeLaws.{shape_of-child}
-use Rattle.node_words.specs.Held.{Seen, AreTrees}
+use Rattle.node_words.specs.Held.{StoreState, AreTrees}
 use Rattle.node_words.specs.descent.Roots.{IsBlockOf, IsOctantOf, HasBlock, ForBlock, ForWorld, cells_of}
 use Rattle.node_words.specs.descent.Parts.{placed}
 use Rattle.node_words.proofs.OfDescent.BlockLaws.{clear_block}
 use Rattle.node_words.proofs.OfDescent.LookLaws.{block_still, leaf_tells, placed_set, root_side}
 use Rattle.node_words.proofs.OfDescent.PartLaws.{placed_in}
-use Rattle.measure.specs.Leaves.{TellsCells}
+use Rattle.measure.specs.Leaves.{BitsPassTest}
 use Rattle.measure.specs.Tallies.{in_octant, PassesNone}
 use Rattle.measure.specs.Widening.{Widens, IsSetIn, ShowsPassed}
 use Rattle.measure.specs.Changes.{is_other, differs, AreNamed, PassesChanged}
@@ -59,10 +59,10 @@ other_bits (suc zero) (suc zero) p q = refl
 other_bits (suc (suc a)) b p q = absurd (omega arith)
 other_bits a (suc (suc b)) p q = absurd (omega arith)
 
-pub leaf_changed : (a b : Seen) (before after : Option Name) (bits bits' : ℕ) (test : Cell → Bool)
+pub leaf_changed : (a b : StoreState) (before after : Option Name) (bits bits' : ℕ) (test : Cell → Bool)
     → b ≡ a → ForBlock a.held 0 before (λ s. bits ≡ bits_of s)
     → ForBlock b.held 0 after (λ s. bits' ≡ bits_of s) → PassesChanged a.held 0 before after test
-    → TellsCells (bit_xor bits bits') test
+    → BitsPassTest (bit_xor bits bits') test
 leaf_changed a b before after bits bits' test e told told' p =
     let old = told p.old p.is_before in
     let new = told' p.new (block_still a b 0 after p.new e p.is_after) in
@@ -78,7 +78,7 @@ leaf_changed a b before after bits bits' test e told told' p =
           ∙ sym (p.shows c (record { x = lx; y = ly; z = lz }));
     }
 
-pub octant_changed : (a b : Seen) (level k : ℕ) (before after child child' : Option Name)
+pub octant_changed : (a b : StoreState) (level k : ℕ) (before after child child' : Option Name)
     (test : Cell → Bool) → b ≡ a → 1 ≤ level → k < 8 → IsOctantOf a.held level before k child
     → IsOctantOf b.held level after k child' → PassesChanged a.held level before after test
     → PassesChanged a.held (level - 1) child child' (in_octant level k test)
@@ -118,18 +118,18 @@ block_changed held level before after t u named o p = record {
   shows = λ c _. refl;
 }
 
-pub some_changed : (a b : Seen) (level : ℕ) (before after : Option Name) → b ≡ a
+pub some_changed : (a b : StoreState) (level : ℕ) (before after : Option Name) → b ≡ a
     → AreNamed a.held → HasBlock a.held level before → HasBlock a.held level after
     → (test : Cell → Bool) × PassesChanged b.held level before after test
 some_changed a b level before after e named h k =
     let test : Cell → Bool =
     differs (cells_of level (shape_of h.tree)) (cells_of level (shape_of k.tree)) in (
       test,
-      subst (λ (s : Seen). PassesChanged s.held level before after test) (sym e)
+      subst (λ (s : StoreState). PassesChanged s.held level before after test) (sym e)
           (block_changed a.held level before after h.tree k.tree named h.is_block k.is_block),
     )
 
-pub changed_extent : (a b : Seen) (level : ℕ) (before after : Option Name) (new : Option Boxed)
+pub changed_extent : (a b : StoreState) (level : ℕ) (before after : Option Name) (new : Option Boxed)
     → b ≡ a → AreNamed a.held
     → ((cells test : Cell → Bool) → PassesChanged b.held level before after test
     → ShowsPassed (record { level = level; at = cell_at 0 0 0 }) test cells
@@ -141,13 +141,13 @@ pub changed_extent : (a b : Seen) (level : ℕ) (before after : Option Name) (ne
 changed_extent a b level before after new e named widens t o u p =
     let test : Cell → Bool = differs (cells_of level (shape_of t)) (cells_of level (shape_of u)) in
     let passed : PassesChanged b.held level before after test =
-    subst (λ (s : Seen). PassesChanged s.held level before after test) (sym e)
+    subst (λ (s : StoreState). PassesChanged s.held level before after test) (sym e)
     (block_changed a.held level before after t u named o p) in
     root_extent (block_side level) level test new refl
     (widens test test passed (shown_root level test))
 
 -- where nothing stood before, all that stands there now differs
-pub all_changed : (a b : Seen) (level : ℕ) (before after : Option Name) (new : Option Boxed)
+pub all_changed : (a b : StoreState) (level : ℕ) (before after : Option Name) (new : Option Boxed)
     → b ≡ a → before ≡ None
     → ForBlock b.held level after (λ u. IsExtent (block_side level) (cells_of level u) new)
     → ForBlock a.held level before

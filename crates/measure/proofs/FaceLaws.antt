@@ -10,7 +10,7 @@ use Rattle.node_words.specs.shapes.Shape.{Shape, Clear, bits_of, octant_shape}
 use Rattle.node_words.specs.shapes.Tree.{Tree, Gone, shape_of, child_of}
 use Rattle.node_words.proofs.OfShapes.ShapeLaws.{has-clear}
 use Rattle.node_words.proofs.OfShapes.TreeLaws.{shape_of-child}
-use Rattle.node_words.specs.Held.{Seen}
+use Rattle.node_words.specs.Held.{StoreState}
 use Rattle.node_words.specs.descent.Roots.{IsBlockOf, IsOctantOf, HasBlock, ForBlock, ForWorld, cells_of}
 use Rattle.node_words.specs.descent.Parts.{EndsBy, placed}
 use Rattle.node_words.proofs.OfDescent.BlockLaws.{clear_block, nothing_block}
@@ -18,16 +18,16 @@ use Rattle.node_words.proofs.OfDescent.LookLaws.{block_still, root_side}
 use Rattle.node_words.proofs.OfDescent.PartLaws.{placed_in}
 use Rattle.vw_cell.specs.declared.directions.Direction.{Direction}
 use Rattle.vw_cell.specs.declared.directions.Direction.TheVariants.{LowX, HighX, LowY, HighY, LowZ, HighZ}
-use Rattle.vw_cell.specs.Faces.{has_next, is_bare, faces_in}
-use Rattle.measure.specs.Leaves.{TellsCells}
+use Rattle.vw_cell.specs.Faces.{has_next, is_exposed, faces_in}
+use Rattle.measure.specs.Leaves.{BitsPassTest}
 use Rattle.measure.specs.Tallies.{in_octant, PassesNone}
-use Rattle.measure.specs.Bare.{is_next_set, bare_of, across, stays, beside_shape, beside_tree, PassesBare}
+use Rattle.measure.specs.Exposed.{is_next_set, exposed_of, across, stays, beside_shape, beside_tree, PassesExposed}
 use Rattle.measure.proofs.BareLaws.{bare_in}
 use Rattle.measure.proofs.BareLeaves.{bare_tells}
 use Rattle.measure.proofs.TallyLaws.{number_small, small_side}
 
 pub nothing_bare : (d : Direction) (held : List Tree) (level : ℕ) (block beside : Option Name)
-    (test : Cell → Bool) → block ≡ None → PassesBare d held level block beside test
+    (test : Cell → Bool) → block ≡ None → PassesExposed d held level block beside test
     → PassesNone level test
 nothing_bare d held level block beside test e p = record {
   each = λ c i. p.shows c i
@@ -38,19 +38,19 @@ nothing_bare d held level block beside test e p = record {
       (has-clear level c.x c.y c.z);
 }
 
-pub leaf_bare : (d : Direction) (a b : Seen) (block beside : Option Name) (bits bits' next word : ℕ)
+pub leaf_bare : (d : Direction) (a b : StoreState) (block beside : Option Name) (bits bits' next word : ℕ)
     (test : Cell → Bool) → b ≡ a → next < 2 ^ 64 → word ≡ 2 ^ 64 - 1 - next
     → ForBlock a.held 0 block (λ s. bits ≡ bits_of s)
     → ForBlock b.held 0 beside (λ s. bits' ≡ bits_of s)
-    → ((s u : Shape) → bits ≡ bits_of s → bits' ≡ bits_of u → TellsCells next (is_next_set d 0 s u))
-    → PassesBare d a.held 0 block beside test → TellsCells (bit_and bits word) test
+    → ((s u : Shape) → bits ≡ bits_of s → bits' ≡ bits_of u → BitsPassTest next (is_next_set d 0 s u))
+    → PassesExposed d a.held 0 block beside test → BitsPassTest (bit_and bits word) test
 leaf_bare d a b block beside bits bits' next word test e small w told told' shows p =
     let is = told p.tree p.is_block in
     let is' = told' p.next (block_still a b 0 beside p.next e p.is_beside) in
     let t =
     bare_tells d bits next (shape_of p.tree) (shape_of p.next) small is
     (shows (shape_of p.tree) (shape_of p.next) is is') in
-    subst (λ (v : ℕ). TellsCells (bit_and bits v) test) (sym w)
+    subst (λ (v : ℕ). BitsPassTest (bit_and bits v) test) (sym w)
     (record {
       each = λ x y z lx ly lz. t.each x y z lx ly lz
           ∙ sym (p.shows (cell_at x y z) (record { x = lx; y = ly; z = lz }));
@@ -64,9 +64,9 @@ from_tree true held level block beside t u p q = p
 from_tree false held level block beside t u p q = q
 
 -- what stands in the block of which it is one
-abbrev pub from_there : (d : Direction) (a b : Seen) (level k : ℕ) (block beside from : Option Name)
+abbrev pub from_there : (d : Direction) (a b : StoreState) (level k : ℕ) (block beside from : Option Name)
     (v : Bool) (test : Cell → Bool) → b ≡ a → v ≡ stays d k → from ≡ (if v then block else beside)
-    → PassesBare d a.held level block beside test → HasBlock b.held level from
+    → PassesExposed d a.held level block beside test → HasBlock b.held level from
 from_there d a b level k block beside from v test e w f p = record {
   tree = if v then p.tree else p.next;
   is_block = block_still a b level from (if v then p.tree else p.next) e
@@ -80,12 +80,12 @@ beside_is : (v : Bool) (t u : Tree) (o : ℕ)
 beside_is true t u o = shape_of-child t o
 beside_is false t u o = shape_of-child u o
 
-pub octant_bare : (d : Direction) (a b : Seen) (level k j : ℕ)
+pub octant_bare : (d : Direction) (a b : StoreState) (level k j : ℕ)
     (block beside from child child' : Option Name) (v : Bool) (test : Cell → Bool) → b ≡ a
     → v ≡ stays d k → from ≡ (if v then block else beside) → j ≡ across d k → 1 ≤ level → k < 8
     → IsOctantOf a.held level block k child → IsOctantOf b.held level from j child'
-    → PassesBare d a.held level block beside test
-    → PassesBare d a.held (level - 1) child child' (in_octant level k test)
+    → PassesExposed d a.held level block beside test
+    → PassesExposed d a.held (level - 1) child child' (in_octant level k test)
 octant_bare d a b level k j block beside from child child' v test e w f g h lt down down' p =
     let there =
     from_there d a b level k block beside from (stays d k) test e refl
@@ -103,10 +103,10 @@ octant_bare d a b level k j block beside from child child' v test e w f g h lt d
       shows = λ c i. p.shows (placed (block_side (level - 1)) k c) (placed_in level k c h lt i)
           ∙ bare_in d level (shape_of p.tree) (shape_of p.next) k c h lt i
           ∙ ap
-          (λ (s : Shape). bare_of d (level - 1) s
+          (λ (s : Shape). exposed_of d (level - 1) s
           (beside_shape d (shape_of p.tree) (shape_of p.next) k) c)
           (sym (shape_of-child p.tree k))
-          ∙ ap (λ (s : Shape). bare_of d (level - 1) (shape_of (child_of p.tree k)) s c)
+          ∙ ap (λ (s : Shape). exposed_of d (level - 1) (shape_of (child_of p.tree k)) s c)
           (sym (beside_is (stays d k) p.tree p.next (across d k)));
     }
 
@@ -127,11 +127,11 @@ next_world LowZ level s c = last (nat_lt 0 c.z) _ _ (has-clear level c.x c.y (bl
 next_world HighZ level s c =
     last (nat_lt (c.z + 1) (block_side level)) _ _ (has-clear level c.x c.y 0)
 
--- what is bare in a world is so in its block, which has nothing beside it
+-- what is exposed in a world is so in its block, which has nothing beside it
 pub world_bare : (d : Direction) (held : List Tree) (level : ℕ) (block : Option Name) (t : Tree)
     → IsBlockOf held level block t
-    → PassesBare d held level block None
-    (is_bare d (block_side level) (cells_of level (shape_of t)))
+    → PassesExposed d held level block None
+    (is_exposed d (block_side level) (cells_of level (shape_of t)))
 world_bare d held level block t b =
     let nothing = nothing_block held level in
     record {
@@ -146,9 +146,9 @@ world_bare d held level block t b =
     }
 
 pub some_bare : (d : Direction) (held : List Tree) (level : ℕ) (block : Option Name)
-    → HasBlock held level block → (test : Cell → Bool) × PassesBare d held level block None test
+    → HasBlock held level block → (test : Cell → Bool) × PassesExposed d held level block None test
 some_bare d held level block h = (
-  is_bare d (block_side level)
+  is_exposed d (block_side level)
       (cells_of level (shape_of h.tree)),
   world_bare d held level block h.tree h.is_block,
 )
@@ -156,18 +156,18 @@ some_bare d held level block h = (
 pub number_bare : (d : Direction) (held : List Tree) (level number : ℕ) (block : Option Name)
     (part : Boxed)
     →
-    ((test : Cell → Bool) → PassesBare d held level block None test → number
+    ((test : Cell → Bool) → PassesExposed d held level block None test → number
     ≡ number_in part test)
     → ForBlock held level block
-    (λ s. number ≡ number_in part (is_bare d (block_side level) (cells_of level s)))
+    (λ s. number ≡ number_in part (is_exposed d (block_side level) (cells_of level s)))
 number_bare d held level number block part told t b =
-    told (is_bare d (block_side level) (cells_of level (shape_of t)))
+    told (is_exposed d (block_side level) (cells_of level (shape_of t)))
     (world_bare d held level block t b)
 
 pub bare_small : (d : Direction) (held : List Tree) (level number : ℕ) (block : Option Name)
     (part : Boxed) → level ≤ 10 → EndsBy (block_side level) part → HasBlock held level block
     →
-    ((test : Cell → Bool) → PassesBare d held level block None test → number
+    ((test : Cell → Bool) → PassesExposed d held level block None test → number
     ≡ number_in part test) → number ≤ 2 ^ 36
 bare_small d held level number block part h ends there told =
     let side = small_side level h in

@@ -20,7 +20,7 @@ use Rattle.node_words.proofs.OfDescent.LookLaws.{same_cell}
 use lib.Bits.{and_le_l}
 use native.Mathlib.Nat.{mod-eq_of_lt}
 use Rattle.node_words.specs.descent.Parts.{EndsBy}
-use Rattle.measure.specs.Leaves.{TellsCells}
+use Rattle.measure.specs.Leaves.{BitsPassTest}
 
 -- a sum of sums is one sum
 sums : (n m : ℕ) (f : ℕ → ℕ)
@@ -105,7 +105,7 @@ on_all v false x y z e p q r = ap one_if e
 -- the bit of a cell in both words
 cell_bit : (bits mask : ℕ) (part : Boxed) (block : Block) (test : Cell → Bool) (x y z : ℕ) → x < 4
     → y < 4 → z < 4 → block.at ≡ cell_at 0 0 0 → LeafShows mask block (is_in_box part)
-    → TellsCells bits test
+    → BitsPassTest bits test
     → (bit_at (bit_and bits mask) (bit_number x y z) == 1) ≡
     (test (cell_at x y z) && is_in_box part (cell_at x y z))
 cell_bit bits mask part block test x y z p q r at shows e =
@@ -126,7 +126,7 @@ cell_bit bits mask part block test x y z p q r at shows e =
 
 pub leaf_number : (bits mask : ℕ) (part : Boxed) (block : Block) (test : Cell → Bool)
     → bits < 2 ^ 64 → EndsBy 4 part → block.at ≡ cell_at 0 0 0
-    → LeafShows mask block (is_in_box part) → TellsCells bits test
+    → LeafShows mask block (is_in_box part) → BitsPassTest bits test
     → count_ones (bit_and bits mask) ≡ number_in part test
 leaf_number bits mask part block test small ends at shows e =
     let word : ℕ = bit_and bits mask in

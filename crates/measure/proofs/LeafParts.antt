@@ -11,13 +11,13 @@ use Rattle.vw_cell.specs.Places.{block_side, is_in_box}
 use Rattle.vw_cell.specs.Tests.{is_in_box_holds}
 use Rattle.vw_cell.specs.Counts.{cell_at, number_in, number_below-same, number_below-none}
 use Rattle.node_words.specs.kernels.Leaves.{LeafShows}
-use Rattle.node_words.specs.Held.{Seen}
+use Rattle.node_words.specs.Held.{StoreState}
 use Rattle.node_words.specs.shapes.Tree.{Tree}
 use Rattle.node_words.specs.descent.Parts.{EndsBy, part_in}
 use Rattle.node_words.proofs.OfDescent.PartLaws.{part_has_cells}
 use Rattle.node_words.proofs.OfDescent.LookLaws.{same_cell}
 use Rattle.measure.specs.declared.tallies.Part.{Part}
-use Rattle.measure.specs.Leaves.{TellsCells, octant_leaf}
+use Rattle.measure.specs.Leaves.{BitsPassTest, octant_leaf}
 use Rattle.measure.specs.Tallies.{Counting, in_octant, IsOctantTally}
 use Rattle.measure.proofs.LeafCounts.{leaf_number}
 use Rattle.measure.proofs.TallyLaws.{part_ends}
@@ -65,10 +65,10 @@ part_shown mask k b shows = record {
       ∙ ap (is_in_box (part_in 4 b k)) (sym (at_corner x y z));
 }
 
-pub counted_within : {S : Type 0} (counts : Counting S) (a c : Seen) (of : Part S)
+pub counted_within : {S : Type 0} (counts : Counting S) (a c : StoreState) (of : Part S)
     (k n bits mask : ℕ) (inner : S) → of.level ≡ 1 → c ≡ a → bits < 2 ^ 64
     → ((u : Cell → Bool) → counts a.held 1 of.subject u → counts a.held 0 inner (in_octant 1 k u))
-    → ((u : Cell → Bool) → counts c.held 0 inner u → TellsCells bits u)
+    → ((u : Cell → Bool) → counts c.held 0 inner u → BitsPassTest bits u)
     → LeafShows mask (octant_leaf k) (is_in_box of.part) → n ≡ count_ones (bit_and bits mask)
     → IsOctantTally counts a.held of k n
 counted_within {S =
@@ -79,7 +79,7 @@ counted_within {S =
     subst (λ (l : ℕ). counts a.held l of.subject test) level p in
     let tells =
     bits_are (in_octant 1 k test)
-    (subst (λ (s : Seen). counts s.held 0 inner (in_octant 1 k test)) (sym same)
+    (subst (λ (s : StoreState). counts s.held 0 inner (in_octant 1 k test)) (sym same)
     (down test there)) in
     let one : P 1 =
     is ∙ leaf_number bits mask (part_in 4 of.part k) corner_block (in_octant 1 k test) small

@@ -7,7 +7,7 @@ use Rattle.vw_cell.specs.declared.blocks.Block.{Block}
 use Rattle.vw_cell.specs.Counts.{cell_at}
 use Rattle.vw_cell.specs.Places.{IsInBox, IsInBlock, IsInWorld, block_side}
 use Rattle.node_words.specs.shapes.Tree.{Tree}
-use Rattle.node_words.specs.Held.{Seen}
+use Rattle.node_words.specs.Held.{StoreState}
 use Rattle.node_words.specs.declared.descent.answers.Known.{Known}
 use Rattle.node_words.specs.descent.Answers.{AreRight}
 use Rattle.node_words.proofs.OfDescent.LookLaws.{same_cell}
@@ -67,13 +67,13 @@ widened_within counts held subject place b part found wide e p widens = record {
 }
 
 -- what is remembered is right before and after calls that change nothing
-pub right_still : {S : Type 0} (counts : Counting S) (a b : Seen)
+pub right_still : {S : Type 0} (counts : Counting S) (a b : StoreState)
     (places : List (Option (Known (Within S)))) → b ≡ a
     → AreRight (tells_within counts) b.held places → AreRight (tells_within counts) a.held places
 right_still counts a b places e r =
-    subst (λ (s : Seen). AreRight (tells_within counts) s.held places) e r
+    subst (λ (s : StoreState). AreRight (tells_within counts) s.held places) e r
 
-pub right_after : {S : Type 0} (counts : Counting S) (a b : Seen)
+pub right_after : {S : Type 0} (counts : Counting S) (a b : StoreState)
     (places : List (Option (Known (Within S)))) → b ≡ a
     → AreRight (tells_within counts) a.held places → AreRight (tells_within counts) b.held places
 right_after counts a b places e r = right_still counts b a places (sym e) r

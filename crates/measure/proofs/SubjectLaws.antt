@@ -14,7 +14,7 @@ use Rattle.node_words.specs.descent.Parts.{placed}
 use Rattle.node_words.proofs.OfDescent.BlockLaws.{clear_block, root_block}
 use Rattle.node_words.proofs.OfDescent.PartLaws.{placed_in}
 use Rattle.node_words.proofs.OfDescent.LookLaws.{leaf_tells, placed_set}
-use Rattle.measure.specs.Leaves.{TellsCells}
+use Rattle.measure.specs.Leaves.{BitsPassTest}
 use Rattle.measure.specs.Tallies.{in_octant, PassesNone}
 use Rattle.measure.specs.Subjects.{PassesSet}
 
@@ -30,7 +30,7 @@ nothing_set held level block test e p = record {
 
 pub leaf_set : (held : List Tree) (block : Option Name) (bits : ℕ) (test : Cell → Bool)
     → ForBlock held 0 block (λ s. bits ≡ bits_of s) → PassesSet held 0 block test
-    → TellsCells bits test
+    → BitsPassTest bits test
 leaf_set held block bits test told p = record {
   each = λ x y z lx ly lz. leaf_tells (shape_of p.tree) bits (cell_at x y z)
       (told p.tree p.is_block) ∙ sym (p.shows (cell_at x y z) (record { x = lx; y = ly; z = lz }));

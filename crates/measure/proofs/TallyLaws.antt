@@ -12,7 +12,7 @@ use Rattle.node_words.proofs.OfDescent.LookLaws.{twice}
 use Rattle.node_words.proofs.OfDescent.Octants.{number_by_octants}
 use Rattle.std.specs.Prelude.{List, Option}
 use Rattle.node_words.specs.shapes.Tree.{Tree}
-use Rattle.node_words.specs.Held.{Seen}
+use Rattle.node_words.specs.Held.{StoreState}
 use Rattle.node_words.specs.declared.descent.answers.Known.{Known}
 use Rattle.node_words.specs.descent.Answers.{AreRight}
 use Rattle.measure.specs.declared.tallies.Part.{Part}
@@ -107,7 +107,7 @@ tallied_fits level k m part test h ends lt is =
     omega (arith, is, sum)
 
 -- the same, by what is known of the block before and after each call
-pub tallied_step : {S : Type 0} (counts : Counting S) (a b c : Seen) (level half k m n : ℕ)
+pub tallied_step : {S : Type 0} (counts : Counting S) (a b c : StoreState) (level half k m n : ℕ)
     (subject inner : S) (part octant : Boxed) (test : Cell → Bool) → b ≡ a → c ≡ b
     → half ≡ block_side (level - 1) → octant ≡ part_in half part k
     → ((u : Cell → Bool) → counts b.held level subject u
@@ -116,9 +116,9 @@ pub tallied_step : {S : Type 0} (counts : Counting S) (a b c : Seen) (level half
     → counts a.held level subject test → m ≡ tallied level part test k
     → m + n ≡ tallied level part test (k + 1)
 tallied_step counts a b c level half k m n subject inner part octant test e f h p down told passes sofar =
-    let in_b = subst (λ (s : Seen). counts s.held level subject test) (sym e) passes in
+    let in_b = subst (λ (s : StoreState). counts s.held level subject test) (sym e) passes in
     let in_c =
-    subst (λ (s : Seen). counts s.held (level - 1) inner (in_octant level k test)) (sym f)
+    subst (λ (s : StoreState). counts s.held (level - 1) inner (in_octant level k test)) (sym f)
     (down test in_b) in
     tallied_more level half k m n part octant test h p (told (in_octant level k test) in_c) sofar
 
@@ -131,7 +131,7 @@ empty_octant counts held of half k octant h is none test p =
     ∙ ap (λ (b : Boxed). number_in b (in_octant of.level k test))
     (is ∙ ap (λ (v : ℕ). part_in v of.part k) h)
 
-pub octant_tallied : {S : Type 0} (counts : Counting S) (a b : Seen) (of : Part S) (half k n : ℕ)
+pub octant_tallied : {S : Type 0} (counts : Counting S) (a b : StoreState) (of : Part S) (half k n : ℕ)
     (inner : S) (octant : Boxed) → b ≡ a → half ≡ block_side (of.level - 1)
     → octant ≡ part_in half of.part k
     → ((u : Cell → Bool) → counts a.held of.level of.subject u
@@ -140,13 +140,13 @@ pub octant_tallied : {S : Type 0} (counts : Counting S) (a b : Seen) (of : Part 
     → IsOctantTally counts a.held of k n
 octant_tallied counts a b of half k n inner octant e h is down told test p =
     told (in_octant of.level k test)
-    (subst (λ (s : Seen). counts s.held (of.level - 1) inner (in_octant of.level k test)) (sym e)
+    (subst (λ (s : StoreState). counts s.held (of.level - 1) inner (in_octant of.level k test)) (sym e)
     (down test p))
     ∙ ap (λ (b : Boxed). number_in b (in_octant of.level k test))
     (is ∙ ap (λ (v : ℕ). part_in v of.part k) h)
 
 -- what a call for an octant needs
-pub octant_counts : {S : Type 0} (counts : Counting S) (a b : Seen) (level k : ℕ)
+pub octant_counts : {S : Type 0} (counts : Counting S) (a b : StoreState) (level k : ℕ)
     (subject inner : S)
     (test : Cell → Bool) → b ≡ a
     → ((u : Cell → Bool) → counts a.held level subject u
@@ -155,7 +155,7 @@ pub octant_counts : {S : Type 0} (counts : Counting S) (a b : Seen) (level k : �
 octant_counts counts a b level k subject inner test e down p = (
   in_octant level k test,
   subst
-      (λ (s : Seen). counts s.held (level - 1) inner (in_octant level k test)) (sym e)
+      (λ (s : StoreState). counts s.held (level - 1) inner (in_octant level k test)) (sym e)
       (down test p),
 )
 
@@ -181,13 +181,13 @@ pub octant_part : (half other k : ℕ) (b part : Boxed) → other ≡ half → p
 octant_part half other k b part e is = is ∙ ap (λ (h : ℕ). part_in h b k) e
 
 -- one more octant that was tallied
-pub octant_more : {S : Type 0} (counts : Counting S) (a b : Seen) (of : Part S) (k m n : ℕ)
+pub octant_more : {S : Type 0} (counts : Counting S) (a b : StoreState) (of : Part S) (k m n : ℕ)
     (test : Cell → Bool) → b ≡ a → IsOctantTally counts b.held of k n
     → counts a.held of.level of.subject test → m ≡ tallied of.level of.part test k
     → m + n ≡ tallied of.level of.part test (k + 1)
 octant_more counts a b of k m n test e told p sofar =
     let last =
-    told test (subst (λ (s : Seen). counts s.held of.level of.subject test) (sym e) p)
+    told test (subst (λ (s : StoreState). counts s.held of.level of.subject test) (sym e) p)
     in
     let step : tallied of.level of.part test (suc k)
     ≡ tallied of.level of.part test k
@@ -197,8 +197,8 @@ octant_more counts a b of k m n test e told p sofar =
     rw add-one (omega (arith, step, last, sofar))
 
 -- what is remembered is right after calls that change nothing
-pub right_again : {S : Type 0} (counts : Counting S) (a b c : Seen)
+pub right_again : {S : Type 0} (counts : Counting S) (a b c : StoreState)
     (places : List (Option (Known (Part S)))) → b ≡ a → c ≡ b
     → AreRight (IsTally counts) c.held places → AreRight (IsTally counts) a.held places
 right_again counts a b c places e f r =
-    subst (λ (s : Seen). AreRight (IsTally counts) s.held places) (f ∙ e) r
+    subst (λ (s : StoreState). AreRight (IsTally counts) s.held places) (f ∙ e) r

@@ -7,14 +7,14 @@ use Rattle.vw_cell.specs.Places.{block_side, half_x, half_y, half_z}
 use Rattle.vw_cell.specs.Counts.{number_in, number_below-at, cell_at}
 use Rattle.node_words.specs.Sums.{one_if}
 use Rattle.node_words.specs.shapes.Tree.{Tree}
-use Rattle.node_words.specs.Held.{Seen}
+use Rattle.node_words.specs.Held.{StoreState}
 use Rattle.node_words.specs.declared.descent.answers.Known.{Known}
 use Rattle.node_words.specs.descent.Answers.{AreRight}
 use Rattle.node_words.specs.descent.Parts.{EndsBy, part_in, whole_of, half_at, half_size}
 use Rattle.node_words.proofs.OfDescent.LookLaws.{twice, same_cell}
 use Rattle.measure.specs.declared.tallies.Part.{Part}
 use Rattle.measure.specs.declared.wholes.WholeBlock.{WholeBlock}
-use Rattle.measure.specs.Leaves.{TellsCells}
+use Rattle.measure.specs.Leaves.{BitsPassTest}
 use Rattle.measure.specs.Tallies.{Counting, in_octant, PassesNone, IsTally, IsWholeTally}
 use Rattle.measure.proofs.TallyLaws.{tallied, tallied_step, none_tallied}
 
@@ -55,7 +55,7 @@ whole_part level k h lt =
     (sym (half_whole half (half_z k) side e (omega arith)))
 
 -- one more octant of a whole block
-pub whole_step : {S : Type 0} (counts : Counting S) (a b c : Seen) (level k m n : ℕ)
+pub whole_step : {S : Type 0} (counts : Counting S) (a b c : StoreState) (level k m n : ℕ)
     (subject inner : S) (test : Cell → Bool) → b ≡ a → c ≡ b → 1 ≤ level → k < 8
     → ((u : Cell → Bool) → counts b.held level subject u
     → counts b.held (level - 1) inner (in_octant level k u))
@@ -66,11 +66,11 @@ whole_step counts a b c level k m n subject inner test e f h lt down told passes
     tallied_step counts a b c level (block_side (level - 1)) k m n subject inner (whole_of level)
     (whole_of (level - 1)) test e f refl (whole_part level k h lt) down told passes sofar
 
-pub whole_right_again : {S : Type 0} (counts : Counting S) (a b c : Seen)
+pub whole_right_again : {S : Type 0} (counts : Counting S) (a b c : StoreState)
     (places : List (Option (Known (WholeBlock S)))) → b ≡ a → c ≡ b
     → AreRight (IsWholeTally counts) c.held places → AreRight (IsWholeTally counts) a.held places
 whole_right_again counts a b c places e f r =
-    subst (λ (s : Seen). AreRight (IsWholeTally counts) s.held places) (f ∙ e) r
+    subst (λ (s : StoreState). AreRight (IsWholeTally counts) s.held places) (f ∙ e) r
 
 -- a part that is the whole has its number
 pub part_of_whole : {S : Type 0} (counts : Counting S) (held : List Tree) (level n : ℕ)
@@ -99,45 +99,45 @@ none_passes level test e = record {
       (record { x = i.x; y = i.y; z = i.z })) e;
 }
 
-pub none_of_part : {S : Type 0} (counts : Counting S) (a b : Seen) (level n : ℕ) (subject : S)
+pub none_of_part : {S : Type 0} (counts : Counting S) (a b : StoreState) (level n : ℕ) (subject : S)
     (part : Boxed) (w : WholeBlock S) → b ≡ a → w ≡ record { subject = subject; level = level } → n ≡ 0
     → EndsBy (block_side level) part → IsWholeTally counts b.held w n
     → IsTally counts a.held (record { subject = subject; level = level; part = part }) 0
 none_of_part {S = S} counts a b level n subject part w e f z ends told test p =
     let is = subst (λ (v : WholeBlock S). IsWholeTally counts b.held v n) f told in
-    let there = subst (λ (s : Seen). counts s.held level subject test) (sym e) p in
+    let there = subst (λ (s : StoreState). counts s.held level subject test) (sym e) p in
     none_tallied level part test ends (none_passes level test (sym z ∙ is test there))
 
 -- the same, by what is seen before a call that changes nothing
-pub tally_before : {S : Type 0} (counts : Counting S) (a b : Seen) (of : Part S) (n : ℕ) → b ≡ a
+pub tally_before : {S : Type 0} (counts : Counting S) (a b : StoreState) (of : Part S) (n : ℕ) → b ≡ a
     → IsTally counts b.held of n → IsTally counts a.held of n
 tally_before counts a b of n e told test p =
-    told test (subst (λ (s : Seen). counts s.held of.level of.subject test) (sym e) p)
+    told test (subst (λ (s : StoreState). counts s.held of.level of.subject test) (sym e) p)
 
-pub right_before : {S : Type 0} (counts : Counting S) (a b : Seen)
+pub right_before : {S : Type 0} (counts : Counting S) (a b : StoreState)
     (places : List (Option (Known (Part S)))) → b ≡ a → AreRight (IsTally counts) b.held places
     → AreRight (IsTally counts) a.held places
 right_before counts a b places e r =
-    subst (λ (s : Seen). AreRight (IsTally counts) s.held places) e r
+    subst (λ (s : StoreState). AreRight (IsTally counts) s.held places) e r
 
-pub whole_right_before : {S : Type 0} (counts : Counting S) (a b : Seen)
+pub whole_right_before : {S : Type 0} (counts : Counting S) (a b : StoreState)
     (places : List (Option (Known (WholeBlock S)))) → b ≡ a
     → AreRight (IsWholeTally counts) b.held places → AreRight (IsWholeTally counts) a.held places
 whole_right_before counts a b places e r =
-    subst (λ (s : Seen). AreRight (IsWholeTally counts) s.held places) e r
+    subst (λ (s : StoreState). AreRight (IsWholeTally counts) s.held places) e r
 
 -- of a leaf
 pub leaf_tally : {S : Type 0} (counts : Counting S) (held : List Tree) (of : Part S) (bits n : ℕ)
-    → of.level ≡ 0 → ((test : Cell → Bool) → counts held 0 of.subject test → TellsCells bits test)
-    → ((test : Cell → Bool) → TellsCells bits test → n ≡ number_in of.part test)
+    → of.level ≡ 0 → ((test : Cell → Bool) → counts held 0 of.subject test → BitsPassTest bits test)
+    → ((test : Cell → Bool) → BitsPassTest bits test → n ≡ number_in of.part test)
     → IsTally counts held of n
 leaf_tally counts held of bits n z bits_are told test p =
     told test (bits_are test (subst (λ (l : ℕ). counts held l of.subject test) z p))
 
 pub whole_leaf_tally : {S : Type 0} (counts : Counting S) (held : List Tree) (of : WholeBlock S)
     (bits n : ℕ) (part : Boxed) → of.level ≡ 0 → part ≡ whole_of 0
-    → ((test : Cell → Bool) → counts held 0 of.subject test → TellsCells bits test)
-    → ((test : Cell → Bool) → TellsCells bits test → n ≡ number_in part test)
+    → ((test : Cell → Bool) → counts held 0 of.subject test → BitsPassTest bits test)
+    → ((test : Cell → Bool) → BitsPassTest bits test → n ≡ number_in part test)
     → IsWholeTally counts held of n
 whole_leaf_tally counts held of bits n part z e bits_are told test p =
     told test (bits_are test (subst (λ (l : ℕ). counts held l of.subject test) z p))
@@ -145,12 +145,12 @@ whole_leaf_tally counts held of bits n part z e bits_are told test p =
     ∙ ap (λ (l : ℕ). number_in (whole_of l) test) (sym z)
 
 -- one more of the eight leaves of a whole block
-pub leaves_step : {S : Type 0} (counts : Counting S) (a b c : Seen) (of : WholeBlock S) (k m n bits : ℕ)
+pub leaves_step : {S : Type 0} (counts : Counting S) (a b c : StoreState) (of : WholeBlock S) (k m n bits : ℕ)
     (inner : S) (whole : Boxed) (test : Cell → Bool) → of.level ≡ 1 → b ≡ a → c ≡ b → k < 8
     → whole ≡ whole_of 0
     → ((u : Cell → Bool) → counts b.held 1 of.subject u → counts b.held 0 inner (in_octant 1 k u))
-    → ((u : Cell → Bool) → counts c.held 0 inner u → TellsCells bits u)
-    → ((u : Cell → Bool) → TellsCells bits u → n ≡ number_in whole u)
+    → ((u : Cell → Bool) → counts c.held 0 inner u → BitsPassTest bits u)
+    → ((u : Cell → Bool) → BitsPassTest bits u → n ≡ number_in whole u)
     → counts a.held of.level of.subject test → m ≡ tallied of.level (whole_of of.level) test k
     → m + n ≡ tallied of.level (whole_of of.level) test (k + 1)
 leaves_step {S = S} counts a b c of k m n bits inner whole test z e f lt w down bits_are told =

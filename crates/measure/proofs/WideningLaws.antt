@@ -16,7 +16,7 @@ use Rattle.node_words.specs.shapes.Tree.{Tree, shape_of}
 use Rattle.node_words.proofs.OfShapes.ShapeLaws.{block_side_some}
 use Rattle.node_words.proofs.OfShapes.ShowLaws.{octant_has, half_below}
 use Rattle.node_words.specs.kernels.Leaves.{LeafShows}
-use Rattle.node_words.specs.Held.{Seen}
+use Rattle.node_words.specs.Held.{StoreState}
 use Rattle.vw_cell.specs.Extents.{IsExtent}
 use Rattle.node_words.specs.descent.Roots.{IsBlockOf, ForBlock, ForWorld, cells_of}
 use Rattle.node_words.specs.descent.Parts.{placed}
@@ -25,7 +25,7 @@ use Rattle.node_words.proofs.OfDescent.PartLaws.{placed_in}
 use Rattle.measure.proofs.LeafCounts.{both}
 use Rattle.measure.proofs.SubjectLaws.{block_set}
 use Rattle.measure.proofs.TallyLaws.{small_side}
-use Rattle.measure.specs.Leaves.{TellsCells}
+use Rattle.measure.specs.Leaves.{BitsPassTest}
 use Rattle.measure.specs.Subjects.{PassesSet}
 use Rattle.measure.specs.Tallies.{Counting, in_octant, PassesNone}
 use Rattle.measure.specs.Widening.{IsFound, Widens, IsSetIn, IsSetInSome, IsOther, IsOtherAt, IsSetAt, from_corner, ShowsPassed, ForCounted, WidensBy, leaf_cell, bit_of}
@@ -84,12 +84,12 @@ unset_set b e f = cc
 abbrev told_place : Block → Cell → Cell
 told_place place c = cell_at (c.x - place.at.x) (c.y - place.at.y) (c.z - place.at.z)
 
-pub record IsTold (place : Block) (c : Cell) : Type 0 where
+pub record HasJournal (place : Block) (c : Cell) : Type 0 where
   pub inner : Cell
   pub inside : IsInWorld (block_side place.level) inner
   pub same : c ≡ from_corner place inner
 
-pub told_cell : (place : Block) (c : Cell) → IsInBlock place c → IsTold place c
+pub told_cell : (place : Block) (c : Cell) → IsInBlock place c → HasJournal place c
 told_cell place c i = record {
   inner = told_place place c;
   inside = record {
@@ -101,7 +101,7 @@ told_cell place c i = record {
 }
 
 -- a cell that doesn't count is unset in the block
-pub passed_by : (place : Block) (test cells : Cell → Bool) (c : Cell) (t : IsTold place c)
+pub passed_by : (place : Block) (test cells : Cell → Bool) (c : Cell) (t : HasJournal place c)
     → ShowsPassed place test cells → cells c ≡ test t.inner
 passed_by place test cells c t shows = ap cells t.same ∙ sym (shows.each t.inner t.inside)
 
@@ -129,7 +129,7 @@ covered_widens counts held subject place old covers cells test p shows =
 
 -- the bits of a leaf show the cells that count in it
 pub leaf_shows : (bits : ℕ) (place : Block) (test cells : Cell → Bool) → place.level ≡ 0
-    → TellsCells bits test → ShowsPassed place test cells → LeafShows bits place cells
+    → BitsPassTest bits test → ShowsPassed place test cells → LeafShows bits place cells
 leaf_shows bits place test cells e told shows =
     let side : block_side place.level ≡ 4 = ap block_side e in
     record {
@@ -144,7 +144,7 @@ leaf_shows bits place test cells e told shows =
 
 pub leaf_widens : {S : Type 0} (counts : Counting S) (held : List Tree) (subject : S)
     (place : Block) (bits : ℕ) (old new : Option Boxed) → place.level ≡ 0
-    → ((test : Cell → Bool) → counts held 0 subject test → TellsCells bits test)
+    → ((test : Cell → Bool) → counts held 0 subject test → BitsPassTest bits test)
     → ((cells : Cell → Bool) → LeafShows bits place cells
     → Widens (IsSetIn place cells) (IsSetIn place cells) old new)
     → WidensBy counts held subject place old new
@@ -242,7 +242,7 @@ octant_passed place test cells k h lt shows =
     }
 
 -- what counts in an octant, after a call that changes nothing
-pub octant_counts_in : {S : Type 0} (counts : Counting S) (a b : Seen) (place inner : Block)
+pub octant_counts_in : {S : Type 0} (counts : Counting S) (a b : StoreState) (place inner : Block)
     (k : ℕ) (subject child : S) (test : Cell → Bool) → b ≡ a → inner ≡ octant_of place k
     → ((u : Cell → Bool) → counts a.held place.level subject u
     → counts a.held (place.level - 1) child (in_octant place.level k u))
@@ -250,10 +250,10 @@ pub octant_counts_in : {S : Type 0} (counts : Counting S) (a b : Seen) (place in
     → counts b.held inner.level child (in_octant place.level k test)
 octant_counts_in counts a b place inner k subject child test e is down p =
     subst (λ (q : Block). counts b.held q.level child (in_octant place.level k test)) (sym is)
-    (subst (λ (s : Seen). counts s.held (place.level - 1) child (in_octant place.level k test))
+    (subst (λ (s : StoreState). counts s.held (place.level - 1) child (in_octant place.level k test))
     (sym e) (down test p))
 
-pub octant_widens : {S : Type 0} (counts : Counting S) (a b : Seen) (subject child : S)
+pub octant_widens : {S : Type 0} (counts : Counting S) (a b : StoreState) (subject child : S)
     (place inner : Block) (k : ℕ) (old new : Option Boxed) → b ≡ a → 1 ≤ place.level → k < 8
     → inner ≡ octant_of place k
     → ((u : Cell → Bool) → counts a.held place.level subject u
@@ -271,7 +271,7 @@ octant_widens counts a b subject child place inner k old new e h lt is down told
     (octant_passed place test cells k h lt shows))
 
 -- what a call for an octant needs
-pub child_counts : {S : Type 0} (counts : Counting S) (a b : Seen) (place inner : Block) (k : ℕ)
+pub child_counts : {S : Type 0} (counts : Counting S) (a b : StoreState) (place inner : Block) (k : ℕ)
     (subject child : S) (test : Cell → Bool) → b ≡ a → inner ≡ octant_of place k
     → ((u : Cell → Bool) → counts a.held place.level subject u
     → counts a.held (place.level - 1) child (in_octant place.level k u))
@@ -281,11 +281,11 @@ child_counts counts a b place inner k subject child test e is down p =
     (in_octant place.level k test, octant_counts_in counts a b place inner k subject child test e is down p)
 
 -- what counts stays while what is seen of the store stays
-pub still_counts : {S : Type 0} (counts : Counting S) (a b : Seen) (level : ℕ) (subject : S)
+pub still_counts : {S : Type 0} (counts : Counting S) (a b : StoreState) (level : ℕ) (subject : S)
     (test : Cell → Bool) → b ≡ a → counts a.held level subject test
     → counts b.held level subject test
 still_counts counts a b level subject test e p =
-    subst (λ (s : Seen). counts s.held level subject test) (sym e) p
+    subst (λ (s : StoreState). counts s.held level subject test) (sym e) p
 
 -- an octant that was passed over, and one that wasn't
 pub apart_same : (place : Block) (cells : Cell → Bool) (corner octant : ℕ) (old : Option Boxed)

@@ -1,7 +1,7 @@
 -- What counts in a block for its faces in one direction.
 use Rattle.measure.specs.Tallies.{Counting}
-use Rattle.measure.specs.Bare.{PassesBare}
-use Rattle.measure.specs.declared.bare_sides.Bare.{Bare}
+use Rattle.measure.specs.Exposed.{PassesExposed}
+use Rattle.measure.specs.declared.exposed_sides.ExposedSides.{ExposedSides}
 
-abbrev pub passes_bare : Counting Bare
-passes_bare held level s test = PassesBare s.direction held level s.block s.beside test
+abbrev pub passes_exposed : Counting ExposedSides
+passes_exposed held level s test = PassesExposed s.direction held level s.block s.beside test

@@ -8,7 +8,7 @@ use Rattle.vw_cell.specs.Counts.{cell_at}
 use Rattle.node_words.specs.shapes.Shape.{bit_number}
 
 -- the bits of a leaf are those of the cells that pass the test
-pub record TellsCells (bits : ℕ) (test : Cell → Bool) : Type 0 where
+pub record BitsPassTest (bits : ℕ) (test : Cell → Bool) : Type 0 where
   pub each : (x y z : ℕ) → x < 4 → y < 4 → z < 4
       → (bit_at bits (bit_number x y z) == 1) ≡ test (cell_at x y z)
 

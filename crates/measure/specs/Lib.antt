@@ -1,7 +1,7 @@
 pub mod Leaves
 pub mod Tallies
 pub mod Subjects
-pub mod Bare
+pub mod Exposed
 pub mod Faces
 pub mod Widening
 pub mod Pruning

@@ -98,7 +98,7 @@ impl Subject for SetCells {
         false
     }
 
-    fn is_dear(&self) -> bool {
+    fn is_memo_worthy(&self) -> bool {
         false
     }
 }

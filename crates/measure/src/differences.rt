@@ -122,7 +122,7 @@ impl Subject for Changed {
         false
     }
 
-    fn is_dear(&self) -> bool {
+    fn is_memo_worthy(&self) -> bool {
         true
     }
 }

@@ -2,7 +2,7 @@ ghost use Rattle.std.specs.Prelude.{◌≡◌, Bool};
 ghost use Rattle.vw_cell.specs.declared.cells.Cell.{Cell};
 ghost use Rattle.vw_cell.specs.Counts.{number_in};
 ghost use Rattle.node_words.specs.descent.Parts.{EndsBy};
-ghost use Rattle.measure.specs.Leaves.{TellsCells};
+ghost use Rattle.measure.specs.Leaves.{BitsPassTest};
 
 use node_words::box_bits;
 use vw_cell::{Block, Boxed, Cell};
@@ -11,7 +11,7 @@ use vw_cell::{Block, Boxed, Cell};
 #[tactic(auto, using(crate::proofs::LeafCounts::leaf_number))]
 pub(crate) fn count_leaf(bits: u64, part: Boxed) -> u64
     requires { EndsBy 4 part }
-    ensures { (test : Cell → Bool) → TellsCells bits test → result ≡ number_in part test }
+    ensures { (test : Cell → Bool) → BitsPassTest bits test → result ≡ number_in part test }
 {
     let at = Cell { x: 0, y: 0, z: 0 };
     let within = box_bits(part, Block { level: 0, at });

@@ -5,7 +5,7 @@ ghost use Rattle.vw_cell.specs.Counts.{number_in};
 ghost use Rattle.node_words.specs.shapes.Tree.{Tree};
 ghost use Rattle.node_words.specs.descent.Answers.{AreRight};
 ghost use Rattle.node_words.specs.descent.Parts.{EndsBy, part_in};
-ghost use Rattle.measure.specs.Leaves.{TellsCells};
+ghost use Rattle.measure.specs.Leaves.{BitsPassTest};
 ghost use Rattle.measure.specs.Tallies.{in_octant, PassesNone, IsTally, IsWholeTally, IsOctantTally};
 
 use crate::leaf_parts::tally_leaf_parts;
@@ -29,7 +29,7 @@ pub trait Subject: Copy {
     fn leaf<B: Blocks>(&self, store: &mut B) -> u64
         requires { (test : Cell → Bool) × counts (B.seen store.old).held 0 self.now test }
         ensures bits { (test : Cell → Bool) → counts (B.seen store.old).held 0 self.now test
-            → TellsCells result test }
+            → BitsPassTest result test }
         ensures seen { B.seen store.new ≡ B.seen store.old }
         ensures rests { B.rests store.old store.new };
 
@@ -51,13 +51,13 @@ pub trait Subject: Copy {
     fn mark(&self) -> usize
         ensures { result < 2 ^ 32 };
 
-    /// Whether it is worth to ask first if no cell of the whole block counts. No answer depends on
-    /// it.
+    /// Whether it is worth to ask first if no cell of the whole block counts. No tally depends on it;
+    /// `passes_none` misses less where it is true.
     fn is_even(&self) -> bool;
 
     /// Whether the number of a block of eight leaves is worth to be remembered. No answer depends
     /// on it.
-    fn is_dear(&self) -> bool;
+    fn is_memo_worthy(&self) -> bool;
 }
 
 ghost use Rattle.std.specs.Prelude.{◌^◌};

@@ -70,7 +70,7 @@ fn tally_something<S: Subject, B: Blocks>(
         let bits = of.subject.leaf(store);
         return count_leaf(bits, whole_block(0));
     }
-    if of.level == 1 && !of.subject.is_dear() {
+    if of.level == 1 && !of.subject.is_memo_worthy() {
         return tally_leaves(store, of);
     }
     if let Some(number) = answers.find(&of) {

@@ -8,7 +8,7 @@ use Rattle.node_words.proofs.OfShapes.TreeLaws.{gone_from_root}
 use Rattle.node_words.specs.Held.{IsHeld}
 use Rattle.node_words.specs.Plans.{Layout}
 use Rattle.node_words.proofs.HeldLaws.{held_reached}
-use Rattle.core_laws.specs.places.Spots.{Spot}
+use Rattle.core_laws.specs.places.WordIds.{WordId}
 use Rattle.core_laws.specs.places.Words.{word_of_child}
 use Rattle.history_model.specs.declared.histories.Record.{Record}
 use Rattle.core_laws.specs.LogEvents.{Appends, Forgets}
@@ -17,7 +17,7 @@ use Rattle.history_model.specs.declared.histories.Mark.{Mark}
 use Rattle.vox_read.specs.Contents.{Content}
 use Rattle.table_rule.specs.LogWords.{record_of_words}
 use Rattle.table_rule.specs.Rules.{MayWrite}
-use Rattle.table_rule.specs.Telling.{ViewTells}
+use Rattle.table_rule.specs.ViewFacts.{ViewFacts}
 use Rattle.table_rule.specs.Views.{SeatView}
 use Rattle.table_rule.proofs.Decoding.{record_back}
 use Rattle.table_rule.proofs.OwnLaws.{first_or_more}
@@ -46,7 +46,7 @@ said_record p v words r root side few are may =
     may.fits (let low = few r.session are.own in omega arith) may.is_record
 
 -- held trees with one root are one, where there is none too
-pub one_tree : (v : SeatView) (t u : Tree) → ViewTells v → (t ≡ Gone) ⊎ IsHeld v.held t
+pub one_tree : (v : SeatView) (t u : Tree) → ViewFacts v → (t ≡ Gone) ⊎ IsHeld v.held t
     → (u ≡ Gone) ⊎ IsHeld v.held u → root_of t ≡ root_of u → t ≡ u
 one_tree v t u tells a b same = ⊎_elim
     (λ (gone : t ≡ Gone). gone ∙ sym (gone_from_root u (sym same ∙ ap root_of gone)))
@@ -56,7 +56,7 @@ one_tree v t u tells a b same = ⊎_elim
     (held_reached v.held u i) same) b) a
 
 module _ (p : Layout) (v : SeatView) (words : List ℕ) (root : Option Name) (side : p.side ≤ 12)
-    (few : (n : ℕ) → Contains v.numbers n → n < 64) (tells : ViewTells v)
+    (few : (n : ℕ) → Contains v.numbers n → n < 64) (tells : ViewFacts v)
     (m : MayAppendWords p v words root) where
   -- what was appended, for whatever record and tree may be
   pub appended_any : (w : SeatView) → Appended v m.change m.tree w
@@ -80,7 +80,7 @@ module _ (p : Layout) (v : SeatView) (words : List ℕ) (root : Option Name) (si
 
 -- each step on the log is one of the store
 module _ (p : Layout) (seat : ℕ) (v : SeatView) where
-  pub append_step : (x : Spot) (f : ℕ → ℕ) (models : List Content) (r : Record)
+  pub append_step : (x : WordId) (f : ℕ → ℕ) (models : List Content) (r : Record)
       (root : Option Name) (tells : ℕ → SeatView → Type 0)
       → MayWrite p seat v x f (Appends p models seat r root) tells
       → MayWrite p seat v x f (StoreStep p seat) tells
@@ -88,7 +88,7 @@ module _ (p : Layout) (seat : ℕ) (v : SeatView) where
       as_step p seat v x f (Appends p models seat r root) tells
       (λ a b e. puts_root _ root e.puts) may
 
-  pub forget_step : (x : Spot) (f : ℕ → ℕ) (m : Mark) (tells : ℕ → SeatView → Type 0)
+  pub forget_step : (x : WordId) (f : ℕ → ℕ) (m : Mark) (tells : ℕ → SeatView → Type 0)
       → MayWrite p seat v x f (Forgets p seat m) tells
       → MayWrite p seat v x f (StoreStep p seat) tells
   forget_step x f m tells may =

@@ -13,9 +13,9 @@ use Rattle.node_words.specs.declared.shapes.names.Name.{Name}
 use Rattle.node_words.specs.Plans.{Layout, IsPlan}
 use Rattle.node_words.proofs.PlanLaws.{few_buckets}
 use Rattle.core_laws.specs.places.KeyWords.{child_of_word}
-use Rattle.core_laws.specs.places.Spots.{Spot, LogLength, Version, versions}
+use Rattle.core_laws.specs.places.WordIds.{WordId, LogLength, Version, versions}
 use Rattle.core_laws.specs.contents.Aligned.{top}
-use Rattle.core_laws.specs.contents.Versions.{IsKept}
+use Rattle.core_laws.specs.contents.Versions.{HoldsVersion}
 use Rattle.core_laws.proofs.Lives.{root_lives}
 use Rattle.core_laws.proofs.LogSteps.{root_in_range}
 use Rattle.core_laws.specs.Soundness.{Sound}
@@ -26,7 +26,7 @@ use Rattle.table_rule.specs.Rules.{table_state}
 use Rattle.table_rule.proofs.LogReading.{length_records, mark_stands, marks_suc, no_mark}
 use Rattle.table_rule.proofs.LogTellingLaw.{root_there}
 use Rattle.node_table.specs.Closing.{AreRoots}
-use Rattle.node_table.specs.Roots.{IsLogSmall, if_kept, roots_in}
+use Rattle.node_table.specs.Roots.{IsLogSmall, if_unmarked, roots_in}
 use Rattle.node_table.specs.declared.closed.Root.{Root}
 use Rattle.node_table.proofs.LogLists.{roots_suc, no_roots}
 
@@ -62,7 +62,7 @@ module _ {A : Type 0} where
       (λ more. contains_more (f y) (map f xs) (f x) (contains_map f xs x more))
 
 -- versions without a mark add none
-marks_more : (mem : Spot → ℕ) (n k : ℕ)
+marks_more : (mem : WordId → ℕ) (n k : ℕ)
     → ((v : ℕ) → n ≤ v → v < n + k → mem (Version v 6) ≡ 0) → marks_in mem (n + k) ≡ marks_in mem n
 marks_more mem n zero none = ap (marks_in mem) (let e : n + 0 ≡ n = omega arith in e)
 marks_more mem n (suc k) none =
@@ -73,7 +73,7 @@ marks_more mem n (suc k) none =
     ∙ append-nil (marks_in mem (n + k))
     ∙ marks_more mem n k (λ v le lt. none v le (omega arith))
 
-pub marks_end : (mem : Spot → ℕ) (long : ℕ) → IsLogSmall mem long
+pub marks_end : (mem : WordId → ℕ) (long : ℕ) → IsLogSmall mem long
     → marks_in mem (long + 1) ≡ marks_in mem versions
 marks_end mem long s =
     let few = s.few in
@@ -81,7 +81,7 @@ marks_end mem long s =
     sym (ap (marks_in mem) (let e : versions ≡ (long + 1) + k = omega arith in e)
     ∙ marks_more mem (long + 1) k (λ v le lt. s.late v (omega arith) (omega arith)))
 
-module _ (p : Layout) (models : List Content) (mem : Spot → ℕ) (plan : IsPlan p)
+module _ (p : Layout) (models : List Content) (mem : WordId → ℕ) (plan : IsPlan p)
     (sound : Sound p models (table_state p mem [])) where
   abbrev c : State
   c = table_state p mem []
@@ -132,7 +132,7 @@ module _ (p : Layout) (models : List Content) (mem : Spot → ℕ) (plan : IsPla
     roots = λ v le none. root_few v le none (mem (Version v 5)) refl;
   }
 
-  kept_word : (v : ℕ) → IsKept c.log v → mem (Version v 6) ≡ 0
+  kept_word : (v : ℕ) → HoldsVersion c.log v → mem (Version v 6) ≡ 0
   kept_word v is = go (mem (Version v 6)) refl
     where
       go : (word : ℕ) → mem (Version v 6) ≡ word → mem (Version v 6) ≡ 0
@@ -144,7 +144,7 @@ module _ (p : Layout) (models : List Content) (mem : Spot → ℕ) (plan : IsPla
           (let le = is.there in let few = long_few in
           let long = length_records mem (mem LogLength) in omega arith) e) refl)
 
-  is_kept : (v : ℕ) → v ≤ mem LogLength → mem (Version v 6) ≡ 0 → IsKept c.log v
+  is_kept : (v : ℕ) → v ≤ mem LogLength → mem (Version v 6) ≡ 0 → HoldsVersion c.log v
   is_kept v le none = record {
     there = (let long = length_records mem (mem LogLength) in omega arith);
     unmarked = no_mark mem versions v none;
@@ -157,13 +157,13 @@ module _ (p : Layout) (models : List Content) (mem : Spot → ℕ) (plan : IsPla
   record AreFirst (n : ℕ) (roots : List Root) : Type 0 where
     pub below : All (λ r. r.version < n) roots
     pub rising : AllPairs (λ a b. a.version < b.version) roots
-    pub kept : All (λ r. IsKept c.log r.version) roots
+    pub kept : All (λ r. HoldsVersion c.log r.version) roots
     pub named : All (λ r. r.name ≡ c.root r.version) roots
     pub all : (v : ℕ) → v < n → mem (Version v 6) ≡ 0 → Contains roots (root_at v)
 
   -- one version more
   one_first : (v word : ℕ) (roots : List Root) → v ≤ mem LogLength → mem (Version v 6) ≡ word
-      → AreFirst v roots → AreFirst (suc v) (roots ++ if_kept word (root_at v))
+      → AreFirst v roots → AreFirst (suc v) (roots ++ if_unmarked word (root_at v))
   one_first v (suc at) roots le e a =
       subst (λ (l : List Root). AreFirst (suc v) l) (sym (append-nil roots)) (record {
         below = λ k d lt. (let b = a.below k d lt in omega arith);
@@ -181,8 +181,8 @@ module _ (p : Layout) (models : List Content) (mem : Spot → ℕ) (plan : IsPla
         (λ k d lt. (let b = a.below k d lt in omega arith))
         (all_one (λ (r : Root). r.version < suc v) (root_at v) (omega arith));
     rising = pairs_end (λ (x y : Root). x.version < y.version) roots (root_at v) a.rising a.below;
-    kept = All-append (λ (r : Root). IsKept c.log r.version) roots (root_at v ∷ []) a.kept
-        (all_one (λ (r : Root). IsKept c.log r.version) (root_at v) (is_kept v le e));
+    kept = All-append (λ (r : Root). HoldsVersion c.log r.version) roots (root_at v ∷ []) a.kept
+        (all_one (λ (r : Root). HoldsVersion c.log r.version) (root_at v) (is_kept v le e));
     named = All-append (λ (r : Root). r.name ≡ c.root r.version) roots (root_at v ∷ []) a.named
         (all_one (λ (r : Root). r.name ≡ c.root r.version) (root_at v) (sym (root_is v le e)));
     all = λ u lt none. elim (cases_eq u v) [

@@ -3,7 +3,7 @@ use Rattle.std.proofs.Common.{◌≡◌, ◌≢◌, ℕ, zero, suc, ◌+◌, ◌
 use Rattle.std.specs.Prelude.{slice_index}
 use Rattle.std.specs.List.{Contains, slice_get}
 use Rattle.std.proofs.lemmas.Option.{none-some}
-use Rattle.core_laws.specs.places.Spots.{Spot, LogLength, Version}
+use Rattle.core_laws.specs.places.WordIds.{WordId, LogLength, Version}
 use Rattle.history_model.specs.declared.histories.Mark.{Mark}
 use Rattle.history_model.specs.declared.histories.Record.{Record}
 use Rattle.node_words.specs.declared.shapes.names.Name.{Name}
@@ -13,33 +13,33 @@ use Rattle.std.proofs.Math.Nat.{div-add-mod, mod-lt}
 use Rattle.core_laws.specs.contents.Aligned.{top}
 use Rattle.core_laws.specs.contents.Versions.{IsUnmarked}
 use Rattle.history_model.specs.Packing.{log_words}
-use Rattle.table_rule.specs.LogTelling.{number_seen, LogTells, RootsTell, IsShownUnmarked}
+use Rattle.table_rule.specs.LogFacts.{number_seen, LogFacts, RootFacts, IsShownUnmarked}
 use Rattle.table_rule.specs.Listing.{Found}
 use Rattle.table_rule.specs.LogWords.{mark_of_words}
-use Rattle.table_rule.specs.Views.{SeatView, known_at, spot_same}
+use Rattle.table_rule.specs.Views.{SeatView, known_at, word_id_same}
 use Rattle.table_rule.proofs.KnownWords.{known_now, known_else}
-use Rattle.table_rule.specs.LogChanges.{log_knowing, log_turned, met_busy, with_found, with_seen_mark, with_record, marks_with, SawNext}
+use Rattle.table_rule.specs.LogChanges.{log_knowing, under_log_turn, met_busy, with_found, with_seen_mark, with_record, marks_with, SawNext}
 use Rattle.table_rule.proofs.MarkLists.{with_keeps}
 use Rattle.node_table.specs.Learning.{WordsStay}
-use Rattle.node_table.specs.Seen.{TableSeen, PassSeen, SamePass}
+use Rattle.node_table.specs.TableStates.{TableState, PassState, SamePass}
 use Rattle.node_table.proofs.Learned.{belongs_on, grows_one}
 use Rattle.node_table.specs.LogTurns.{AreOthers, AreWordsOf, FoundMark, FoundOpen, HasLogTurn, IsBusy, IsMarkKnown, IsWordOf, LearnsLog, MeetsBusy, SeesMark, SeesMore, TakesLog, with_log}
 
 -- a word of a version tells no length
-pub length_else : (u i n : ℕ) (ws : List (Spot × ℕ))
+pub length_else : (u i n : ℕ) (ws : List (WordId × ℕ))
     → known_at LogLength ((Version u i, n) ∷ ws) ≡ known_at LogLength ws
 length_else u i n ws =
     known_else (Version u i) LogLength n ws (λ e. (let no : ⊥ = cc in no))
 
-some_else : (x y : Spot) (n : ℕ) (ws : List (Spot × ℕ)) → known_at y ws ≢ None
+some_else : (x y : WordId) (n : ℕ) (ws : List (WordId × ℕ)) → known_at y ws ≢ None
     → known_at y ((x, n) ∷ ws) ≢ None
-some_else x y n ws some = elim (spot_same y x) [
+some_else x y n ws some = elim (word_id_same y x) [
   | yes e ↦ (λ none. none-some n
       (sym none ∙ ap (λ z. known_at z ((x, n) ∷ ws)) e ∙ known_now x n ws))
   | no ne ↦ (λ none. some (sym (known_else x y n ws ne) ∙ none))
 ]
 
-some_now : (x : Spot) (n : ℕ) (ws : List (Spot × ℕ)) → known_at x ((x, n) ∷ ws) ≢ None
+some_now : (x : WordId) (n : ℕ) (ws : List (WordId × ℕ)) → known_at x ((x, n) ∷ ws) ≢ None
 some_now x n ws none = none-some n (sym none ∙ known_now x n ws)
 
 -- the view once four words of a version were loaded
@@ -116,7 +116,7 @@ module _ (v m : SeatView) (u : ℕ) (l : Loaded v m u) where
     saw_more = record {
       more = s.change ∷ [];
       is = saw_is
-          ∙ ap (λ (ws : List (Spot × ℕ)). (let z : SeatView = with_log v (record v.log {
+          ∙ ap (λ (ws : List (WordId × ℕ)). (let z : SeatView = with_log v (record v.log {
             words = ws;
             seen = record v.log.seen { records = v.log.seen.records ++ s.change ∷ [] };
           }) in z)) (sym (ap (λ (x : SeatView). x.log.words) saw_is));
@@ -155,11 +155,11 @@ sees_on u v w a b = record {
 }
 
 -- a word is learned
-pub sees_word : (v w : SeatView) (x : Spot) (n : ℕ) → w ≡ log_knowing v x n → SeesMore v w
+pub sees_word : (v w : SeatView) (x : WordId) (n : ℕ) → w ≡ log_knowing v x n → SeesMore v w
 sees_word v w x n is = record {
   more = [];
   is = is
-      ∙ ap (λ (y : List (Spot × ℕ) × List Record). (let z : SeatView = with_log v (record v.log {
+      ∙ ap (λ (y : List (WordId × ℕ) × List Record). (let z : SeatView = with_log v (record v.log {
         words = y.0;
         seen = record v.log.seen { records = y.1 };
       }) in z))
@@ -167,9 +167,9 @@ sees_word v w x n is = record {
 }
 
 -- the turn came, once others were met, and then records were seen
-pub takes_log_on : {made : ℕ} (v m u w : SeatView) → MeetsBusy made v m → u ≡ log_turned m true
+pub takes_log_on : {made : ℕ} (v m u w : SeatView) → MeetsBusy made v m → u ≡ under_log_turn m true
     → SeesMore u w → TakesLog made v w
-takes_log_on v m u w busy turned s = record {
+takes_log_on v m u w busy under_turn s = record {
   more = s.more;
   met = busy.met;
   others = busy.others;
@@ -177,15 +177,15 @@ takes_log_on v m u w busy turned s = record {
       ∙ ap (λ (x : SeatView). (let z : SeatView = with_log x (record x.log {
         words = w.log.words;
         seen = record x.log.seen { records = x.log.seen.records ++ s.more };
-      }) in z)) (turned
-      ∙ ap (λ (x : SeatView). (let z : SeatView = log_turned x true in z)) busy.is);
+      }) in z)) (under_turn
+      ∙ ap (λ (x : SeatView). (let z : SeatView = under_log_turn x true in z)) busy.is);
 }
 
 -- at once: whoever met nobody notes nobody
-pub takes_at_once : (v u w : SeatView) → u ≡ log_turned v true → SeesMore u w
+pub takes_at_once : (v u w : SeatView) → u ≡ under_log_turn v true → SeesMore u w
     → w.log.busy ≡ v.log.busy
-takes_at_once v u w turned s =
-    ap (λ (x : SeatView). x.log.busy) s.is ∙ ap (λ (x : SeatView). x.log.busy) turned
+takes_at_once v u w under_turn s =
+    ap (λ (x : SeatView). x.log.busy) s.is ∙ ap (λ (x : SeatView). x.log.busy) under_turn
 
 pub meets_none : {made : ℕ} (v : SeatView) → MeetsBusy made v v
 meets_none v = record {
@@ -230,7 +230,7 @@ learns_log_on u v w a b = record {
   }) in z)) a.is;
 }
 
-pub learns_log_word : (v w : SeatView) (x : Spot) (n : ℕ) → w ≡ log_knowing v x n
+pub learns_log_word : (v w : SeatView) (x : WordId) (n : ℕ) → w ≡ log_knowing v x n
     → ((m : ℕ) → known_at x v.log.words ≡ Some m → n ≡ m) → LearnsLog v w
 learns_log_word v w x n is again =
     let words : w.log.words ≡ (x, n) ∷ v.log.words = ap (λ (y : SeatView). y.log.words) is in
@@ -241,7 +241,7 @@ learns_log_word v w x n is again =
     }
 
 -- whoever learns keeps the log's turn
-pub log_turn_stays : (table : TableSeen) (s t : PassSeen) → HasLogTurn table s → SamePass s t
+pub log_turn_stays : (table : TableState) (s t : PassState) → HasLogTurn table s → SamePass s t
     → LearnsLog s.view t.view → HasLogTurn table t
 log_turn_stays table s t h same l = record {
   of = belongs_on table s t h.of same;
@@ -253,13 +253,13 @@ log_turn_stays table s t h same l = record {
   };
 }
 
-pub known_log_word : (v w : SeatView) (x : Spot) (n : ℕ) → w ≡ log_knowing v x n
+pub known_log_word : (v w : SeatView) (x : WordId) (n : ℕ) → w ≡ log_knowing v x n
     → known_at x w.log.words ≡ Some n
 known_log_word v w x n is =
     ap (λ (y : SeatView). known_at x y.log.words) is ∙ known_now x n v.log.words
 
 -- a word of a record that is known is the one that a log keeps
-pub one_word : (v w : SeatView) (n i word : ℕ) → LogTells w → w.log.turn ≡ true → LearnsLog v w
+pub one_word : (v w : SeatView) (n i word : ℕ) → LogFacts w → w.log.turn ≡ true → LearnsLog v w
     → i < 5 → known_at (Version (suc n) i) w.log.words ≡ Some word → IsWordOf v n i word
 one_word v w n i word tells turn l low known r is =
     let seen : w.log.seen.records ≡ v.log.seen.records =
@@ -270,7 +270,7 @@ one_word v w n i word tells turn l low known r is =
     ∙ ap (λ (rs : List Record). slice_index (log_words (take (suc n) rs) r) i) seen
 
 -- five words of it are those
-pub five_words : (v w : SeatView) (n a b c d e : ℕ) → LogTells w → w.log.turn ≡ true
+pub five_words : (v w : SeatView) (n a b c d e : ℕ) → LogFacts w → w.log.turn ≡ true
     → LearnsLog v w → known_at (Version (suc n) 0) w.log.words ≡ Some a
     → known_at (Version (suc n) 1) w.log.words ≡ Some b
     → known_at (Version (suc n) 2) w.log.words ≡ Some c
@@ -287,7 +287,7 @@ five_words v w n a b c d e tells turn l ka kb kc kd ke r is =
 
 -- five words were loaded one after another
 pub five_read : (v v1 v2 v3 v4 v5 : SeatView) (n a b c d e : ℕ) → LearnsLog v v1
-    → LearnsLog v1 v2 → LearnsLog v2 v3 → LearnsLog v3 v4 → LearnsLog v4 v5 → LogTells v5
+    → LearnsLog v1 v2 → LearnsLog v2 v3 → LearnsLog v3 v4 → LearnsLog v4 v5 → LogFacts v5
     → v5.log.turn ≡ true → known_at (Version (suc n) 0) v1.log.words ≡ Some a
     → known_at (Version (suc n) 1) v2.log.words ≡ Some b
     → known_at (Version (suc n) 2) v3.log.words ≡ Some c
@@ -321,7 +321,7 @@ sought_is v w u zero none some = record {
 sought_is v w u (suc at) none some = record { found = v.log.found; is = (some at refl).0 }
 
 -- where words were learned, the log's turn is had still
-pub log_turn_on : (table : TableSeen) (s t : PassSeen) (u i n : ℕ) → HasLogTurn table s
+pub log_turn_on : (table : TableState) (s t : PassState) (u i n : ℕ) → HasLogTurn table s
     → SamePass s t → t.view.turn ≡ s.view.turn → t.view.log.turn ≡ s.view.log.turn
     → number_seen t.view ≡ number_seen s.view
     → t.view.log.words ≡ (Version u i, n) ∷ s.view.log.words → HasLogTurn table t
@@ -335,7 +335,7 @@ log_turn_on table s t u i n h same idle turn seen words = record {
   };
 }
 
-pub words_grow : (v w : SeatView) (x : Spot) (n : ℕ) → w.log.words ≡ (x, n) ∷ v.log.words
+pub words_grow : (v w : SeatView) (x : WordId) (n : ℕ) → w.log.words ≡ (x, n) ∷ v.log.words
     → ((m : ℕ) → known_at x v.log.words ≡ Some m → n ≡ m) → WordsStay v.log.words w.log.words
 words_grow v w x n words again =
     subst (λ ws. WordsStay v.log.words ws) (sym words) (grows_one x n v.log.words again)
@@ -419,7 +419,7 @@ found_mark_on v m w u at mark k version when s =
     }
 
 -- the word of a shown root is small
-pub root_small : (p : Layout) (w : SeatView) (u word : ℕ) → IsPlan p → w.plan ≡ p → RootsTell w
+pub root_small : (p : Layout) (w : SeatView) (u word : ℕ) → IsPlan p → w.plan ≡ p → RootFacts w
     → IsShownUnmarked w u → known_at (Version u 5) w.log.words ≡ Some word → word ≤ 2 ^ 24
 root_small p w u zero plan same tells s known = omega arith
 root_small p w u (suc at) plan same tells s known =

@@ -9,19 +9,19 @@ use Rattle.node_words.specs.Held.{HoldsChildren}
 use Rattle.node_words.specs.Plans.{Layout}
 use Rattle.core_laws.specs.places.KeyWords.{key_word}
 use Rattle.core_laws.specs.places.Names.{named}
-use Rattle.core_laws.specs.places.Spots.{Spot, key_words}
+use Rattle.core_laws.specs.places.WordIds.{WordId, key_words}
 use Rattle.table_rule.specs.Reading.{book_of}
-use Rattle.table_rule.specs.Turning.{used_of}
-use Rattle.table_rule.specs.Views.{SeatView, BucketAt, bucket_of, key_spot, known_at}
+use Rattle.table_rule.specs.TurnRules.{used_of}
+use Rattle.table_rule.specs.Views.{SeatView, BucketAt, bucket_of, key_word_id, known_at}
 use Rattle.table_rule.proofs.KnownWords.{known_now, known_else}
-use Rattle.table_rule.specs.Changes.{AreFreeFrom, Counted, PassesEntry, PassesBelow, IsFullIn, children_of_key, knowing}
+use Rattle.table_rule.specs.Changes.{AreFreeFrom, Counted, PassesEntry, PassesBelow, children_of_key, knowing}
 use Rattle.node_table.specs.Acts.{MayAdd}
 use Rattle.node_table.specs.Finding.{UsesSlot, ReadiesEntry, WritesKey}
-use Rattle.node_table.specs.Learning.{WordsStay, Learns, IsLowestKnownFree}
-use Rattle.node_table.specs.Seen.{PassSeen, SamePass}
+use Rattle.node_table.specs.Learning.{WordsStay, Learns}
+use Rattle.node_table.specs.TableStates.{PassState, SamePass}
 use Rattle.node_table.proofs.Learned.{steps_on}
 
-pub learn_counted : (s t : PassSeen) (b : BucketAt) (cap k : ℕ) → SamePass s t
+pub learn_counted : (s t : PassState) (b : BucketAt) (cap k : ℕ) → SamePass s t
     → Counted s.view b cap k t.view → Learns s t
 learn_counted s t b cap k same c =
     let words : t.view.words ≡ c.words = ap (λ (v : SeatView). v.words) c.is in record {
@@ -42,17 +42,17 @@ counted_free v w b cap k c =
     subst (λ (u : SeatView). AreFreeFrom u.words b k cap) (sym c.is) c.free
 
 -- fewer slots are free from a later one on
-pub free_later : (ws : List (Spot × ℕ)) (b : BucketAt) (i j cap : ℕ) → i ≤ j
+pub free_later : (ws : List (WordId × ℕ)) (b : BucketAt) (i j cap : ℕ) → i ≤ j
     → AreFreeFrom ws b i cap → AreFreeFrom ws b j cap
 free_later ws b i j cap le f = record { each = λ slot low high. f.each slot (omega arith) high }
 
-pub free_stay : (old new : List (Spot × ℕ)) (b : BucketAt) (i cap : ℕ) → WordsStay old new
+pub free_stay : (old new : List (WordId × ℕ)) (b : BucketAt) (i cap : ℕ) → WordsStay old new
     → AreFreeFrom old b i cap → AreFreeFrom new b i cap
 free_stay old new b i cap g f =
     record { each = λ slot low high. g.stays _ _ (f.each slot low high) }
 
 -- the used slots were passed, and the others are free
-pub passes_all : (old new : List (Spot × ℕ)) (key : keys.Key) (b : BucketAt) (i cap : ℕ)
+pub passes_all : (old new : List (WordId × ℕ)) (key : keys.Key) (b : BucketAt) (i cap : ℕ)
     → WordsStay old new → PassesBelow new key b i → AreFreeFrom old b i cap
     → PassesBelow new key b cap
 passes_all old new key b i cap g below f = record {
@@ -62,18 +62,7 @@ passes_all old new key b i cap g below f = record {
   ];
 }
 
--- the used slots are live, and the next one was never used
-pub first_unused : (old new : List (Spot × ℕ)) (b : BucketAt) (i cap : ℕ) → WordsStay old new
-    → IsFullIn new b i → i < cap → AreFreeFrom old b i cap → IsLowestKnownFree new b cap i
-first_unused old new b i cap g full lt f =
-    record { inside = lt; free = g.stays _ _ (f.each i (omega arith) lt); lower = full }
-
--- or there is none
-pub all_full : (ws : List (Spot × ℕ)) (b : BucketAt) (i cap : ℕ) → IsFullIn ws b i → cap ≤ i
-    → IsFullIn ws b cap
-all_full ws b i cap full le = record { each = λ slot lt. full.each slot (omega arith) }
-
-module _ (s t : PassSeen) (n : Name) (k : ℕ) (l : Learns s t)
+module _ (s t : PassState) (n : Name) (k : ℕ) (l : Learns s t)
     (known : known_at (used_of (bucket_of n)) t.view.words ≡ Some k) where
   -- the slot was used before
   pub used_before : n.slot < k → UsesSlot s t n
@@ -85,10 +74,10 @@ module _ (s t : PassSeen) (n : Name) (k : ℕ) (l : Learns s t)
   }
 
   -- the number grew past it
-  pub used_now : (u : PassSeen) (more : ℕ) → SamePass t u
+  pub used_now : (u : PassState) (more : ℕ) → SamePass t u
       → u.view ≡ knowing t.view (used_of (bucket_of n)) more → n.slot < more → UsesSlot s u n
   used_now u more same is low =
-      let x : Spot = used_of (bucket_of n) in
+      let x : WordId = used_of (bucket_of n) in
       let words : u.view.words ≡ (x, more) ∷ t.view.words = ap (λ (v : SeatView). v.words) is in
       record {
         same = steps_on s t u l.same same;
@@ -106,7 +95,7 @@ module _ (s t : PassSeen) (n : Name) (k : ℕ) (l : Learns s t)
       }
 
 -- with the key's words and a used slot an entry is ready
-module _ (p : Layout) (s m t : PassSeen) (key : keys.Key) (n : Name)
+module _ (p : Layout) (s m t : PassState) (key : keys.Key) (n : Name)
     (may : MayAdd p s.view n key) (w : WritesKey s m key n p.cap (key_words n.level))
     (u : UsesSlot m t n) where
   passes_on : (q : Name) → PassesEntry m.view.words key q → PassesEntry t.view.words key q
@@ -115,7 +104,7 @@ module _ (p : Layout) (s m t : PassSeen) (key : keys.Key) (n : Name)
     word = o.word;
     inside = o.inside;
     found = o.found;
-    known = u.stays (key_spot q o.word) o.found (λ x. (let no : ⊥ = cc in no)) o.known;
+    known = u.stays (key_word_id q o.word) o.found (λ x. (let no : ⊥ = cc in no)) o.known;
     other = o.other;
   })
 
@@ -135,7 +124,7 @@ module _ (p : Layout) (s m t : PassSeen) (key : keys.Key) (n : Name)
       used = u.used;
       has_key = record {
         each = λ i lt.
-            u.stays (key_spot n i) (key_word key i) (λ x. (let no : ⊥ = cc in no))
+            u.stays (key_word_id n i) (key_word key i) (λ x. (let no : ⊥ = cc in no))
             (w.first.each i lt);
       };
       fits = may.fits;

@@ -5,7 +5,7 @@ use Rattle.node_words.specs.declared.shapes.names.Name.{Name}
 use Rattle.node_words.specs.shapes.Shape.{ShowsCells}
 use Rattle.node_words.specs.shapes.Tree.{Tree, root_of, shape_of}
 use Rattle.node_words.specs.shapes.Weights.{weigh, weight_of}
-use Rattle.core_laws.specs.places.Spots.{LogLength, Version}
+use Rattle.core_laws.specs.places.WordIds.{LogLength, Version}
 use Rattle.core_laws.specs.places.Words.{word_of_child}
 use Rattle.node_words.specs.Plans.{Layout}
 use Rattle.history_model.specs.declared.histories.Record.{Record}
@@ -13,16 +13,16 @@ use Rattle.history_model.specs.declared.histories.Mark.{Mark}
 use Rattle.history_model.specs.Packing.{log_words}
 use Rattle.core_laws.specs.contents.Aligned.{world_block}
 use Rattle.core_laws.specs.contents.Versions.{IsUnmarked}
-use Rattle.table_rule.specs.LogTelling.{number_seen, seen_has, SeesAll, IsShownUnmarked}
+use Rattle.table_rule.specs.LogFacts.{number_seen, seen_has, SeesAll, IsShownUnmarked}
 use Rattle.table_rule.specs.LogViews.{LogView}
 use Rattle.table_rule.specs.Views.{SeatView, known_at}
-use Rattle.table_rule.specs.LogChanges.{log_turned, met_busy, marks_with, IsAppendable}
+use Rattle.table_rule.specs.LogChanges.{under_log_turn, met_busy, marks_with, IsAppendable}
 use Rattle.node_table.specs.Learning.{WordsStay}
-use Rattle.node_table.specs.Seen.{TableSeen, PassSeen, BelongsTo}
+use Rattle.node_table.specs.TableStates.{TableState, PassState, BelongsTo}
 
 -- the pass is one of the table's, has no bucket's turn and the log's, and has seen each record of
 -- the log
-pub record HasLogTurn (t : TableSeen) (s : PassSeen) : Type 0 where
+pub record HasLogTurn (t : TableState) (s : PassState) : Type 0 where
   pub of : BelongsTo t s
   pub idle : s.view.turn ≡ None
   pub sees : SeesAll s.view
@@ -38,7 +38,7 @@ with_log v l = record v { log = l }
 
 -- the pass is one of the table's, has no bucket's turn and the log's, knows the log's length, and
 -- has seen no more records than that
-pub record IsReading (t : TableSeen) (s : PassSeen) (long : ℕ) : Type 0 where
+pub record IsReading (t : TableState) (s : PassState) (long : ℕ) : Type 0 where
   pub of : BelongsTo t s
   pub idle : s.view.turn ≡ None
   pub turn : s.view.log.turn ≡ true
@@ -67,7 +67,7 @@ pub record MeetsBusy (made : ℕ) (v w : SeatView) : Type 0 where
 pub record TurnsLog (made : ℕ) (v w : SeatView) : Type 0 where
   pub before : SeatView
   pub met : MeetsBusy made v before
-  pub is : w ≡ log_turned before true
+  pub is : w ≡ under_log_turn before true
 
 -- the log's turn didn't come, since another session has it, one of so many: its number is noted
 pub record IsBusy (made : ℕ) (v w : SeatView) : Type 0 where

@@ -2,7 +2,7 @@
 ghost use Rattle.std.specs.Prelude.{◌≡◌, ◌<◌, ◌≤◌, ◌+◌, ◌-◌, ◌^◌, [], length};
 ghost use Rattle.std.specs.Slots.{slots_items, slots_len, IsFull};
 ghost use Rattle.core_laws.specs.places.KeyWords.{child_of_word};
-ghost use Rattle.core_laws.specs.places.Spots.{LogLength, Version, width};
+ghost use Rattle.core_laws.specs.places.WordIds.{LogLength, Version, width};
 ghost use Rattle.core_laws.specs.contents.Aligned.{top};
 ghost use Rattle.table_rule.specs.Reading.{word_at};
 ghost use Rattle.table_rule.specs.LogWords.{act_of_words, ball_of_words, box_of_words, cell_of_word, mark_of_words, marks_in, tint_of_words};

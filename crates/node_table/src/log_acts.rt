@@ -5,10 +5,10 @@ ghost use Rattle.node_words.specs.shapes.Tree.{Tree};
 ghost use Rattle.node_words.specs.shapes.Tree.{root_of as tree_root};
 ghost use Rattle.node_words.specs.shapes.Weights.{number_of_trees, weight_of};
 ghost use Rattle.core_laws.specs.places.KeyWords.{child_of_word};
-ghost use Rattle.core_laws.specs.places.Spots.{LogLength, Version};
-ghost use Rattle.table_rule.specs.LogTelling.{IsShownRoot, IsShownUnmarked, number_seen};
+ghost use Rattle.core_laws.specs.places.WordIds.{LogLength, Version};
+ghost use Rattle.table_rule.specs.LogFacts.{IsShownRoot, IsShownUnmarked, number_seen};
 ghost use Rattle.table_rule.specs.Views.{known_at};
-ghost use Rattle.table_rule.specs.LogChanges.{log_knowing, log_turned};
+ghost use Rattle.table_rule.specs.LogChanges.{log_knowing, under_log_turn};
 ghost use Rattle.node_table.specs.LogTurns.{AreWordsOf, HasLogTurn, HasNoTurn, IsBusy, IsReading};
 ghost use Rattle.node_table.specs.LogTurns.{FoundOpen, IsMarkKnown, IsWordOf, LearnsLog};
 ghost use Rattle.node_table.specs.LogTurns.{LooksForMark, SeesMark, SeesMore};
@@ -16,7 +16,7 @@ ghost use Rattle.node_table.specs.Guards.{LeavesBusy, TakesAtOnce};
 ghost use Rattle.node_table.specs.LogTurns.{AppendsInTurn, AppendsUnderTurn, ForAppended};
 ghost use Rattle.node_table.specs.LogTurns.{ForgetsUnderTurn, MayAppendWords, StoresNext, log_left, next_mark};
 ghost use Rattle.node_table.specs.LogTurns.{TakesLog, TurnsLog};
-ghost use Rattle.node_table.specs.Seen.{BelongsTo, SamePass};
+ghost use Rattle.node_table.specs.TableStates.{BelongsTo, SamePass};
 
 use crate::log_steps::{
     exchange_log, give_log_back, look_length, look_version, put_length, put_mark, put_mark_word,
@@ -82,7 +82,7 @@ fn try_take(table: &NodeTable, seat: &mut NumberedSeat) -> bool
     requires of { BelongsTo table.now seat.old }
     requires idle { seat.old.view.log.turn ≡ false }
     ensures same { SamePass seat.old seat.new }
-    ensures taken { result ≡ true → seat.new.view ≡ log_turned seat.old.view true }
+    ensures taken { result ≡ true → seat.new.view ≡ under_log_turn seat.old.view true }
     ensures busy { result ≡ false → IsBusy table.now.made seat.old.view seat.new.view }
 {
     let found = exchange_log(table, seat);

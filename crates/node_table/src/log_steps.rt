@@ -3,17 +3,17 @@ ghost use Rattle.std.specs.Prelude.{◌≡◌, ◌≢◌, ◌+◌, ◌<◌, ◌�
 ghost use Rattle.std.specs.List.{Contains};
 ghost use Rattle.node_words.specs.shapes.Tree.{root_of};
 ghost use Rattle.node_words.specs.shapes.Weights.{number_of_trees};
-ghost use Rattle.core_laws.specs.places.Spots.{LogLength, Version};
+ghost use Rattle.core_laws.specs.places.WordIds.{LogLength, Version};
 ghost use Rattle.core_laws.specs.contents.Versions.{IsUnmarked};
-ghost use Rattle.table_rule.specs.LogTelling.{IsShownRoot, SeesAll, number_seen};
+ghost use Rattle.table_rule.specs.LogFacts.{IsShownRoot, SeesAll, number_seen};
 ghost use Rattle.table_rule.specs.LogWords.{mark_of_words};
 ghost use Rattle.table_rule.specs.Views.{known_at};
-ghost use Rattle.table_rule.specs.LogChanges.{Appended, Forgot, SawNext, log_knowing, log_turned};
+ghost use Rattle.table_rule.specs.LogChanges.{Appended, Forgot, SawNext, log_knowing, under_log_turn};
 ghost use Rattle.table_rule.specs.LogChanges.{met_busy};
 ghost use Rattle.table_rule.specs.LogChanges.{with_found, with_seen_mark};
 ghost use Rattle.node_table.specs.LogTurns.{AreStored, ForAppended, HasLogTurn, MayAppendWords};
 ghost use Rattle.node_table.specs.LogTurns.{next_mark};
-ghost use Rattle.node_table.specs.Seen.{BelongsTo, SamePass};
+ghost use Rattle.node_table.specs.TableStates.{BelongsTo, SamePass};
 
 use crate::passes::NumberedSeat;
 use crate::steps::{exchange_as, load_as, store_as};
@@ -26,7 +26,7 @@ pub(crate) fn exchange_log(table: &NodeTable, seat: &mut NumberedSeat) -> u64
     requires of { BelongsTo table.now seat.old }
     requires idle { seat.old.view.log.turn ≡ false }
     ensures same { SamePass seat.old seat.new }
-    ensures taken { result ≡ 0 → seat.new.view ≡ log_turned seat.old.view true }
+    ensures taken { result ≡ 0 → seat.new.view ≡ under_log_turn seat.old.view true }
     ensures busy { (other : ℕ) → result ≡ suc other
         → (seat.new.view ≡ met_busy seat.old.view other) × (other < table.now.made)
         × ¬ Contains seat.old.view.numbers other }
@@ -41,7 +41,7 @@ pub(crate) fn give_log_back(table: &NodeTable, seat: &mut NumberedSeat)
     requires of { BelongsTo table.now seat.old }
     requires turn { seat.old.view.log.turn ≡ true }
     ensures same { SamePass seat.old seat.new }
-    ensures view { seat.new.view ≡ log_turned seat.old.view false }
+    ensures view { seat.new.view ≡ under_log_turn seat.old.view false }
 {
     let place = table.places.log_turn();
     store_as::<Brand, ()>(table, seat, place, 0, &());

@@ -2,7 +2,7 @@
 ghost use Rattle.std.specs.Prelude.{◌≡◌, ◌<◌, ◌≤◌, ◌+◌, ◌-◌, ℕ, Option, Some, None, [], ◌∷◌, IfSome};
 ghost use Rattle.std.specs.Borrow.{sem};
 ghost use Rattle.node_words.specs.shapes.Weights.{number_of_trees};
-ghost use Rattle.table_rule.specs.LogTelling.{IsShownRoot, IsShownUnmarked, number_seen};
+ghost use Rattle.table_rule.specs.LogFacts.{IsShownRoot, IsShownUnmarked, number_seen};
 ghost use Rattle.node_table.specs.LogTurns.{AppendsInTurn, AppendsUnderTurn, AreWordsOf, ForAppended};
 ghost use Rattle.node_table.specs.Guards.{KeepsTurn};
 ghost use Rattle.node_table.specs.Lending.{LendsPass, TriesLog};
@@ -10,7 +10,7 @@ ghost use Rattle.node_table.specs.LogTurns.{ForgetsUnderTurn, HasLogTurn, HasNoT
 ghost use Rattle.node_table.specs.LogTurns.{IsWordOf, LearnsLog, LooksForMark, MayAppendWords};
 ghost use Rattle.node_table.specs.LogTurns.{TakesLog};
 ghost use Rattle.node_table.specs.LogTurns.{log_left, next_mark};
-ghost use Rattle.node_table.specs.Seen.{BelongsTo};
+ghost use Rattle.node_table.specs.TableStates.{BelongsTo};
 
 use crate::log_acts::{
     leave_log, log_append, log_append_on, log_forget, log_length, log_mark, log_root, log_word,

@@ -2,8 +2,8 @@
 ghost use Rattle.std.specs.Prelude.{◌≡◌, ◌≤◌, ◌∷◌, [], None, false};
 ghost use Rattle.node_words.specs.shapes.Weights.{number_of_trees};
 ghost use Rattle.node_words.specs.Held.{AreCanonical, AreTrees};
-ghost use Rattle.table_rule.specs.LogTelling.{number_seen};
-ghost use Rattle.table_rule.specs.Telling.{ViewTells};
+ghost use Rattle.table_rule.specs.LogFacts.{number_seen};
+ghost use Rattle.table_rule.specs.ViewFacts.{ViewFacts};
 
 use crate::rule::View;
 use atomic_table::Seat;
@@ -21,17 +21,17 @@ impl Model for NumberedSeat {
     ghost use Rattle.atomic_table.specs.Seated.{table_id_coded};
     ghost use Rattle.node_words.specs.shapes.ShapeCode.{coded_shape};
     ghost use Rattle.node_words.specs.shapes.TreeCode.{coded_tree};
-    ghost use Rattle.node_table.specs.Seen.{PassSeen};
-    ghost use Rattle.table_rule.specs.Telling.{ViewTells};
+    ghost use Rattle.node_table.specs.TableStates.{PassState};
+    ghost use Rattle.table_rule.specs.ViewFacts.{ViewFacts};
 
-    ghost Value = { PassSeen };
+    ghost Value = { PassState };
 
     ghost coded = { Prim.hlevel (codes, coded_tree, coded_shape, table_id_coded) };
 
     ghost view = { λ p. record { table = p.seat.table_id; view = p.seat.me.0 } };
 
     ghost invariant = { λ p. (p.seat.me.0.numbers ≡ p.number ∷ []) × (p.number < 64)
-        × (p.seat.me.1 ≡ []) × (p.seat.me.0.alive ≡ true) × ViewTells p.seat.me.0 };
+        × (p.seat.me.1 ≡ []) × (p.seat.me.0.alive ≡ true) × ViewFacts p.seat.me.0 };
 }
 
 /// What a session steps with. It must be spent.
@@ -48,10 +48,10 @@ impl Model for Pass {
     ghost use Rattle.node_words.specs.shapes.ShapeCode.{coded_shape};
     ghost use Rattle.node_words.specs.shapes.TreeCode.{coded_tree};
     ghost use Rattle.node_words.specs.shapes.Weights.{number_of_trees};
-    ghost use Rattle.node_table.specs.Seen.{PassSeen};
-    ghost use Rattle.table_rule.specs.LogTelling.{number_seen};
+    ghost use Rattle.node_table.specs.TableStates.{PassState};
+    ghost use Rattle.table_rule.specs.LogFacts.{number_seen};
 
-    ghost Value = { PassSeen };
+    ghost Value = { PassState };
 
     ghost coded = { Prim.hlevel (codes, coded_tree, coded_shape, table_id_coded) };
 
@@ -91,7 +91,7 @@ impl Pass {
     /// What the pass tells of the trees that it reaches, of its log and of the roots that its log's
     /// turn has shown. No step is made.
     pub fn tell(&self)
-        ensures { ViewTells self.now.view }
+        ensures { ViewFacts self.now.view }
     {
         tell(&self.seat);
     }
@@ -119,7 +119,7 @@ fn number_of(seat: &NumberedSeat) -> u16
 
 // What a seat tells by itself.
 pub(crate) fn tell(seat: &NumberedSeat)
-    ensures { ViewTells seat.now.view }
+    ensures { ViewFacts seat.now.view }
 {
     let _number = seat.number;
 }

@@ -10,8 +10,8 @@ use Rattle.node_words.specs.shapes.Shape as shape
 use Rattle.node_words.proofs.OfShapes.TreeLaws.{root_from_child, IsTreeAt-below, level_of, gone_at, leaf_at, node_levels, shape_of-leaf, shape_of-node}
 use Rattle.node_words.proofs.OfShapes.WeightLaws.{weight_of-gone, weight_of-there, weight_below-part, weight_below-put, weight_below-one, put_row-same, put_row-other}
 use Rattle.node_words.specs.Plans.{Layout}
-use Rattle.node_words.specs.Held.{Seen, IsSought, AreHeld, AreBelow, Gains, Joins, Grants, OnlyHeldChanges, OnlyMeets, name_in}
-use Rattle.node_words.specs.Gathering.{IsTreeOf, Comes, MayHold, Loses, LosesAll, Grew, unchanged, one, Grows, Fails, Gathered}
+use Rattle.node_words.specs.Held.{StoreState, IsSought, AreHeld, AreBelow, Gains, Joins, Grants, OnlyHeldChanges, OnlyMeets, name_in}
+use Rattle.node_words.specs.Gathering.{IsTreeOf, GainsShare, MayHold, Loses, LosesAll, Grew, unchanged, one, Grows, Fails, Gathered}
 use Rattle.node_words.proofs.HeldLaws.{Keeps, reached_more, reached_child}
 
 -- a tree of a block stays one where more is held
@@ -38,11 +38,11 @@ tree_of-child held level t name k h r = record {
 
 -- a share that came is held
 pub comes_held : (old new : List Tree) (level : ℕ) (s : Shape) (name : Option Name)
-    → (c : Comes old level s name new) → MayHold new c.tree
+    → (c : GainsShare old level s name new) → MayHold new c.tree
 comes_held old new level s name c = record { weighs = λ f. omega (arith, c.weighs f) }
 
 pub leaf_comes : (old new : List Tree) (bits : ℕ) (n : Name) → n.level ≡ 0
-    → Gains old (LeafAt n bits) new → Comes old 0 (shape.Leaf bits) (Some n) new
+    → Gains old (LeafAt n bits) new → GainsShare old 0 (shape.Leaf bits) (Some n) new
 leaf_comes old new bits n e g =
     record { tree = LeafAt n bits; root = refl; levels = leaf_at n bits e; shape = shape_of-leaf n bits; weighs = λ f. omega (arith, g.weighs f, weight_of-there f (LeafAt n bits) n refl) }
 
@@ -60,7 +60,7 @@ none_gathered old level target children h = record {
 -- one more octant
 pub one_gathered : (old mid new : List Tree) (level : ℕ) (target : Shape)
     (cs ds : List (Option Name)) (k : ℕ) (name : Option Name) → k < 8 → length cs ≡ 8
-    → Gathered old level target cs k mid → Comes mid level (octant_shape target k) name new
+    → Gathered old level target cs k mid → GainsShare mid level (octant_shape target k) name new
     → ds ≡ set cs k name → Gathered old level target ds (k + 1) new
 one_gathered old mid new level target cs ds k name lt e a c d =
     let inside : k < length cs = omega arith in
@@ -136,7 +136,7 @@ gathered_shape old mid level target cs e a =
 pub node_comes : (old mid new : List Tree) (level : ℕ) (target : Shape) (cs : List (Option Name))
     (n : Name) → branch_of (λ k. octant_shape target k) ≡ target → n.level ≡ suc level
     → (a : Gathered old level target cs 8 mid) → Joins mid a.row n new
-    → Comes old (suc level) target (Some n) new
+    → GainsShare old (suc level) target (Some n) new
 node_comes old mid new level target cs n e l a j = record {
   tree = node_at n a.row;
   root = refl;
@@ -190,10 +190,10 @@ pub grew_into : {A : Type 0} {P Q : A → Type 0} {a b : List A} → ((x : A) �
 grew_into h unchanged = unchanged
 grew_into h (one x q) = one (h _ x) (grew_into h q)
 
-pub grows_none : (target : Shape) (a : Seen) → Grows target a a
+pub grows_none : (target : Shape) (a : StoreState) → Grows target a a
 grows_none target a = record { plan = refl; made = unchanged; met = refl }
 
-pub grows_held : (target : Shape) (a b c : Seen) → Grows target a b → OnlyHeldChanges b c
+pub grows_held : (target : Shape) (a b c : StoreState) → Grows target a b → OnlyHeldChanges b c
     → Grows target a c
 grows_held target a b c p q =
     record {
@@ -205,7 +205,7 @@ grows_held target a b c p q =
     }
 
 -- an octant grew
-pub grows_octant : (target : Shape) (k : ℕ) (a b c : Seen) → Grows target a b
+pub grows_octant : (target : Shape) (k : ℕ) (a b c : StoreState) → Grows target a b
     → Grows (octant_shape target k) b c → Grows target a c
 grows_octant target k a b c p q =
     record {
@@ -217,7 +217,7 @@ grows_octant target k a b c p q =
     }
 
 -- the target itself was granted
-pub grows_granted : (target made : Shape) (a b c : Seen) → made ≢ Clear → made ≡ target
+pub grows_granted : (target made : Shape) (a b c : StoreState) → made ≢ Clear → made ≡ target
     → Grows target a b → Grants b made c → Grows target a c
 grows_granted target made a b c ne e g m = record {
   plan = m.plan ∙ g.plan;
@@ -230,7 +230,7 @@ grows_granted target made a b c ne e g m = record {
 }
 
 -- an octant met a full bucket, and what was gathered went back
-pub octant_fails : (target : Shape) (k level bucket : ℕ) (a b c d : Seen) (l n : ℕ)
+pub octant_fails : (target : Shape) (k level bucket : ℕ) (a b c d : StoreState) (l n : ℕ)
     (cs : List (Option Name)) → Grows target a b → Fails (octant_shape target k) level bucket b c
     → OnlyHeldChanges c d → (g : Gathered a.held l target cs n b.held)
     → LosesAll c.held g.row 8 d.held → Fails target level bucket a d
@@ -249,7 +249,7 @@ octant_fails target k level bucket a b c d l n cs p q o g r = record {
 }
 
 -- the node met a full bucket, and its octants went back
-pub node_fails : (target wanted : Shape) (level bucket l n : ℕ) (a b c d : Seen)
+pub node_fails : (target wanted : Shape) (level bucket l n : ℕ) (a b c d : StoreState)
     (cs : List (Option Name)) → wanted ≡ target → Grows target a b
     → OnlyMeets b level bucket wanted c → OnlyHeldChanges c d
     → (g : Gathered a.held l target cs n b.held) → LosesAll c.held g.row 8 d.held
@@ -268,7 +268,7 @@ node_fails target wanted level bucket l n a b c d cs e p q o g r = record {
 }
 
 -- the leaf met a full bucket
-pub leaf_fails : (level bucket bits : ℕ) (a b : Seen) → OnlyMeets a level bucket (shape.Leaf bits) b
+pub leaf_fails : (level bucket bits : ℕ) (a b : StoreState) → OnlyMeets a level bucket (shape.Leaf bits) b
     → Fails (shape.Leaf bits) level bucket a b
 leaf_fails level bucket bits a b q = record {
   plan = q.plan;

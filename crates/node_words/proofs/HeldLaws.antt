@@ -2,12 +2,12 @@
 use Rattle.std.proofs.Common.{◌≡◌, ℕ, zero, suc, ◌+◌, ◌-◌, ◌<◌, ◌≤◌, Some, None, Option, List, refl, sym, ◌∙◌, ap, subst, arith}
 use Rattle.node_words.specs.declared.shapes.names.Name.{Name}
 use Rattle.node_words.specs.shapes.Shape.{IsCanonical, branch_of}
-use Rattle.node_words.specs.shapes.Tree.{Tree, Gone, root_of, child_of, shape_of, StandsIn, LeafAt, NodeAt, itself, below, IsTreeAt}
+use Rattle.node_words.specs.shapes.Tree.{Tree, Gone, root_of, child_of, shape_of, IsSubtree, LeafAt, NodeAt, itself, below, IsTreeAt}
 use Rattle.node_words.specs.shapes.Weights.{weigh, number_of_trees}
 use Rattle.node_words.proofs.OfShapes.ShapeLaws.{branch_canonical, clear_canonical}
 use Rattle.node_words.proofs.OfShapes.WeightLaws.{weight_of-there, weight_below-part}
 use Rattle.node_words.proofs.OfShapes.TreeLaws.{stands_child, level_of, IsTreeAt-child, IsTreeAt-below, child_of-gone, gone_from_root, shape_of-some, shape_of-gone}
-use Rattle.node_words.specs.Held.{SameHeld, Seen, IsHeld, IsReached, HoldsName, ReachesName, Gains, OnlyHeldChanges, AreTrees, AreCanonical, AreHeld, AreBelow, HasChild, name_in}
+use Rattle.node_words.specs.Held.{SameHeld, StoreState, IsHeld, IsReached, HoldsName, ReachesName, Gains, OnlyHeldChanges, AreTrees, AreCanonical, AreHeld, AreBelow, HasChild, name_in}
 
 -- all that a holds, b holds too, as often
 pub record Keeps (a b : List Tree) : Type 0 where
@@ -62,10 +62,10 @@ pub reaches_child : (held : List Tree) (t : Tree) (k : ℕ) (n : Name) → IsRea
 reaches_child held t k n r e =
     record { tree = child_of t k; reached = reached_child held t k r; root = e }
 
-pub only_nothing : (a : Seen) → OnlyHeldChanges a a
+pub only_nothing : (a : StoreState) → OnlyHeldChanges a a
 only_nothing a = record { plan = refl; made = refl; met = refl }
 
-pub only_on : (a b c : Seen) → OnlyHeldChanges a b → OnlyHeldChanges b c → OnlyHeldChanges a c
+pub only_on : (a b c : StoreState) → OnlyHeldChanges a b → OnlyHeldChanges b c → OnlyHeldChanges a c
 only_on a b c p q = record { plan = q.plan ∙ p.plan; made = q.made ∙ p.made; met = q.met ∙ p.met }
 
 -- nothing stands below a leaf
@@ -76,7 +76,7 @@ leaf_octants (LeafAt n b) zero h = refl
 leaf_octants (LeafAt n b) (suc k) h = refl
 leaf_octants (NodeAt n a b c d e f g i) k h = absurd h
 
-in_gone : {u t : Tree} → StandsIn u t → t ≡ Gone → u ≡ Gone
+in_gone : {u t : Tree} → IsSubtree u t → t ≡ Gone → u ≡ Gone
 in_gone itself e = e
 in_gone (below k s) e = in_gone s (ap (λ t. child_of t k) e ∙ child_of-gone k)
 
@@ -86,7 +86,7 @@ pub record Stands (side : ℕ) (u : Tree) (n : Name) : Type 0 where
   pub in_world : n.level + 2 ≤ side
 
 stands_levels : (side level : ℕ) (u t : Tree) (n : Name) → level + 2 ≤ side → IsTreeAt level t
-    → StandsIn u t → root_of u ≡ Some n → Stands side u n
+    → IsSubtree u t → root_of u ≡ Some n → Stands side u n
 stands_levels side level u t n h a itself e =
     let q = level_of level t n a e in record
     { levels = subst (λ (l : ℕ). IsTreeAt l t) (sym q) a; in_world = omega arith }

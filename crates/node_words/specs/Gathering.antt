@@ -4,7 +4,7 @@ use Rattle.node_words.specs.declared.shapes.names.Name.{Name}
 use Rattle.node_words.specs.shapes.Shape.{Shape, octant_shape, IsPart}
 use Rattle.node_words.specs.shapes.Tree.{Tree, Gone, root_of, shape_of, IsTreeAt}
 use Rattle.node_words.specs.shapes.Weights.{weigh, weight_of, weight_below}
-use Rattle.node_words.specs.Held.{Seen, IsSought, IsReached, name_in}
+use Rattle.node_words.specs.Held.{StoreState, IsSought, IsReached, name_in}
 
 -- t is the tree of a block of this level: of a name that is reached, or of no node
 pub record IsTreeOf (held : List Tree) (level : ℕ) (t : Tree) (name : Option Name) : Type 0 where
@@ -13,7 +13,7 @@ pub record IsTreeOf (held : List Tree) (level : ℕ) (t : Tree) (name : Option N
   pub levels : IsTreeAt level t
 
 -- a share of what may be a node came, whose tree has this shape and level
-pub record Comes (old : List Tree) (level : ℕ) (s : Shape) (name : Option Name)
+pub record GainsShare (old : List Tree) (level : ℕ) (s : Shape) (name : Option Name)
     (new : List Tree) : Type 0 where
   pub tree : Tree
   pub root : root_of tree ≡ name
@@ -39,13 +39,13 @@ pub data Grew {A : Type 0} (P : A → Type 0) (old : List A) : List A → Type 0
   one : {a : A} {new : List A} → P a → Grew P old new → Grew P old (a ∷ new)
 
 -- parts of the target may have been made, and nothing met a full bucket
-pub record Grows (target : Shape) (old new : Seen) : Type 0 where
+pub record Grows (target : Shape) (old new : StoreState) : Type 0 where
   pub plan : new.plan ≡ old.plan
   pub made : Grew (λ p. IsPart p target) old.made new.made
   pub met : new.met ≡ old.met
 
 -- a part of the target met this full bucket, which is its own, and the store holds what it held
-pub record Fails (target : Shape) (level bucket : ℕ) (old new : Seen) : Type 0 where
+pub record Fails (target : Shape) (level bucket : ℕ) (old new : StoreState) : Type 0 where
   pub plan : new.plan ≡ old.plan
   pub made : Grew (λ p. IsPart p target) old.made new.made
   pub wanted : Shape

@@ -4,7 +4,7 @@ use Rattle.std.specs.Prelude.{◌≡◌, ◌≢◌, ℕ, ◌+◌, ◌*◌, ◌<�
 use Rattle.node_words.specs.declared.shapes.names.Name.{Name}
 use Rattle.node_words.specs.shapes.Shape.{Shape, Clear, IsBranch, IsCanonical, IsPart}
 use Rattle.node_words.specs.shapes.Buckets.{bucket_of_shape}
-use Rattle.node_words.specs.shapes.Tree.{Tree, root_of, shape_of, node_at, StandsIn, IsTreeAt}
+use Rattle.node_words.specs.shapes.Tree.{Tree, root_of, shape_of, node_at, IsSubtree, IsTreeAt}
 use Rattle.node_words.specs.shapes.Weights.{weigh, weight_below}
 use Rattle.node_words.specs.Plans.{Layout, buckets_at}
 
@@ -24,7 +24,7 @@ pub record IsSought (p : Layout) (w : Wanted) : Type 0 where
 
 -- what a store is seen as: its plan, which no call changes, the trees of the shares held, the
 -- shapes of the entries added, and what met a full bucket
-pub record Seen : Type 0 where
+pub record StoreState : Type 0 where
   pub plan : Layout
   pub held : List Tree
   pub made : List Shape
@@ -38,7 +38,7 @@ pub record IsHeld (held : List Tree) (t : Tree) : Type 0 where
 pub record IsReached (held : List Tree) (t : Tree) : Type 0 where
   pub over : Tree
   pub is_held : IsHeld held over
-  pub stands : StandsIn t over
+  pub stands : IsSubtree t over
 
 -- a share of the name is held
 pub record HoldsName (held : List Tree) (n : Name) : Type 0 where
@@ -102,14 +102,15 @@ pub record Joins (old : List Tree) (row : ℕ → Tree) (n : Name) (new : List T
   pub weighs : (f : Tree → ℕ) → weigh f new + weight_below f row 8 ≡ f (node_at n row) + weigh f old
 
 -- what is held changes and nothing else
-pub record OnlyHeldChanges (old new : Seen) : Type 0 where
+pub record OnlyHeldChanges (old new : StoreState) : Type 0 where
   pub plan : new.plan ≡ old.plan
   pub made : new.made ≡ old.made
   pub met : new.met ≡ old.met
 
 -- nothing changes but that this level, bucket and shape join what met a full bucket, which is the
 -- shape's bucket
-pub record OnlyMeets (old : Seen) (level bucket : ℕ) (shape : Shape) (new : Seen) : Type 0 where
+pub record OnlyMeets (old : StoreState) (level bucket : ℕ) (shape : Shape)
+    (new : StoreState) : Type 0 where
   pub sought : IsSought old.plan (record { level = level; bucket = bucket; shape = shape })
   pub plan : new.plan ≡ old.plan
   pub held : new.held ≡ old.held
@@ -117,7 +118,7 @@ pub record OnlyMeets (old : Seen) (level bucket : ℕ) (shape : Shape) (new : Se
   pub met : new.met ≡ record { level = level; bucket = bucket; shape = shape } ∷ old.met
 
 -- a share came: an entry was added for its shape, or there was one; and nothing met a full bucket
-pub record Grants (old : Seen) (shape : Shape) (new : Seen) : Type 0 where
+pub record Grants (old : StoreState) (shape : Shape) (new : StoreState) : Type 0 where
   pub plan : new.plan ≡ old.plan
   pub made : (new.made ≡ old.made) ⊎ (new.made ≡ shape ∷ old.made)
   pub met : new.met ≡ old.met

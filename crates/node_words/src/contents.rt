@@ -2,8 +2,8 @@
 //! can need all name a block by its cells; here stands the one shape that a store keeps for them.
 //!
 //! It is definitions and laws, and touches nothing. The definitions stand in
-//! `specs/contents/CellShapes.antt`. The laws that crates above rest on are the contracts of the functions
-//! here.
+//! `specs/contents/CellShapes.antt`. The laws that crates above rest on are the contracts of the
+//! functions here.
 
 ghost use Rattle.std.specs.Prelude.{◌≡◌, ◌^◌, ◌<◌, ℕ, suc};
 ghost use Rattle.node_words.specs.shapes.Shape.{Shape, Clear, Leaf, has, IsCanonical, octant_shape};

@@ -3,7 +3,8 @@
 //! table of what was found before.
 //!
 //! It reads a store, and takes no memory but for that table, which has a fixed size. What stands
-//! below a root is said in `specs/descent/Roots.antt`, a look at a cell in `specs/descent/Looks.antt`, parts in
+//! below a root is said in `specs/descent/Roots.antt`, a look at a cell in
+//! `specs/descent/Looks.antt`, parts in
 //! `specs/descent/Parts.antt`, and answers that are remembered in `specs/descent/Answers.antt`.
 
 mod answers;

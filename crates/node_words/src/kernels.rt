@@ -2,8 +2,8 @@
 //! eight others. They are computed from numbers, and touch nothing.
 //!
 //! Each answers for 64 cells by a few operations on whole words, and is proved to say of each cell
-//! what its definition says: which bit is whose is in `specs/kernels/Leaves.antt`, and when a cell is in a
-//! box or a ball in `specs/kernels/Places.antt` of `vw_cell`.
+//! what its definition says: which bit is whose is in `specs/kernels/Leaves.antt`, and when a cell
+//! is in a box or a ball in `specs/kernels/Places.antt` of `vw_cell`.
 
 mod balls;
 mod boxes;

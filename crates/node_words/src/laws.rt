@@ -17,7 +17,7 @@ ghost use Rattle.node_words.specs.Held.{
   AreHeld,
   AreBelow,
   HasChild,
-  Seen,
+  StoreState,
   Joins,
   OnlyHeldChanges,
 };
@@ -60,7 +60,7 @@ pub fn held_children_make_canonical_shapes()
         → AreHeld held children row → IsCanonical level (branch_of (λ k. shape_of (row k))) }
 {}
 
-ghost use Rattle.node_words.specs.Gathering.{Comes, Gathered, LosesAll, Grows, Fails};
+ghost use Rattle.node_words.specs.Gathering.{GainsShare, Gathered, LosesAll, Grows, Fails};
 ghost use Rattle.std.proofs.Common.{suc};
 
 /// Whoever gathered a share for each octant of a block has a share of the block once they went into
@@ -69,8 +69,8 @@ pub fn gathered_octants_join_or_go_back()
     ensures join { (old mid new : List Tree) (level : ℕ) (target : Shape) (cs : List (Option Name))
         (n : Name) → branch_of (λ k. octant_shape target k) ≡ target → n.level ≡ suc level
         → (a : Gathered old level target cs 8 mid) → Joins mid a.row n new
-        → Comes old (suc level) target (Some n) new }
-    ensures back { (target : Shape) (k level bucket : ℕ) (a b c d : Seen) (l n : ℕ)
+        → GainsShare old (suc level) target (Some n) new }
+    ensures back { (target : Shape) (k level bucket : ℕ) (a b c d : StoreState) (l n : ℕ)
         (cs : List (Option Name)) → Grows target a b
         → Fails (octant_shape target k) level bucket b c → OnlyHeldChanges c d
         → (g : Gathered a.held l target cs n b.held) → LosesAll c.held g.row 8 d.held

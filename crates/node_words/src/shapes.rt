@@ -2,16 +2,16 @@
 //! tree.
 //!
 //! It is definitions and laws, and touches nothing. Shapes and their cells stand in
-//! `specs/shapes/Shape.antt`, trees in `specs/shapes/Tree.antt`, the bucket of a content in `specs/shapes/Buckets.antt`,
-//! and lists told by weights in `specs/shapes/Weights.antt`. The laws that crates above rest on are the
-//! contracts of the functions here.
+//! `specs/shapes/Shape.antt`, trees in `specs/shapes/Tree.antt`, the bucket of a content in
+//! `specs/shapes/Buckets.antt`, and lists told by weights in `specs/shapes/Weights.antt`. The laws
+//! that crates above rest on are the contracts of the functions here.
 
 ghost use Rattle.std.specs.Prelude.{◌≡◌, ◌≢◌, ◌+◌, ◌<◌, ◌≤◌, ℕ, Bool, List, Some, None, slice_index};
 ghost use Rattle.vw_cell.specs.declared.cells.Cell.{Cell};
 ghost use Rattle.vw_cell.specs.declared.blocks.Block.{Block};
 ghost use Rattle.vw_cell.specs.Places.{octant_of};
 ghost use Rattle.node_words.specs.shapes.Shape.{Shape, Clear, SameCells, ShowsCells, HasCell, IsCanonical, IsCanonicalUpTo, octant_shape, IsPart};
-ghost use Rattle.node_words.specs.shapes.Tree.{Tree, root_of, child_of, shape_of, StandsIn, IsTreeAt};
+ghost use Rattle.node_words.specs.shapes.Tree.{Tree, root_of, child_of, shape_of, IsSubtree, IsTreeAt};
 ghost use Rattle.node_words.specs.shapes.Weights.{weight_of, weight_below, put_row};
 ghost use Rattle.node_words.specs.shapes.Buckets.{bucket_of_shape};
 ghost use Rattle.node_words.specs.declared.shapes.names.Name.{Name};
@@ -59,7 +59,7 @@ pub fn trees_have_shapes()
     ensures level { (level : ℕ) (t : Tree) (n : Name) → IsTreeAt level t → root_of t ≡ Some n
         → n.level ≡ level }
     ensures octant { (t : Tree) (k : ℕ) → shape_of (child_of t k) ≡ octant_shape (shape_of t) k }
-    ensures part { (t u : Tree) → root_of t ≢ None → StandsIn t u
+    ensures part { (t u : Tree) → root_of t ≢ None → IsSubtree t u
         → IsPart (shape_of t) (shape_of u) }
 {}
 

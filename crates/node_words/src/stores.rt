@@ -3,7 +3,7 @@ ghost use Rattle.node_words.specs.shapes.Shape.{Leaf, branch_of};
 ghost use Rattle.node_words.specs.shapes.Tree.{LeafAt, root_of, bits_in, child_of, shape_of, node_at};
 ghost use Rattle.node_words.specs.shapes.Weights.{number_of_trees};
 ghost use Rattle.node_words.specs.declared.shapes.names.Name.{Name};
-ghost use Rattle.node_words.specs.Held.{Seen, IsReached, HoldsName, ReachesName, ForHeld, ForReached, Gains, HoldsChildren, ForChildren, HasChild, AreBelow, Joins, OnlyHeldChanges, OnlyMeets, Grants, AreTrees, AreCanonical, ReturnsWithin};
+ghost use Rattle.node_words.specs.Held.{StoreState, IsReached, HoldsName, ReachesName, ForHeld, ForReached, Gains, HoldsChildren, ForChildren, HasChild, AreBelow, Joins, OnlyHeldChanges, OnlyMeets, Grants, AreTrees, AreCanonical, ReturnsWithin};
 
 use crate::shapes::Name;
 use crate::shares::{Full, NodeRefused, Share};
@@ -14,7 +14,7 @@ use std::sync::ledger::Ledger;
 pub trait Blocks {
     /// The plan, and what is held, made and met. No call changes the plan. Blocks that no call adds
     /// to have made and met nothing, and their plan tells the side alone.
-    ghost seen: { Self → Seen };
+    ghost seen: { Self → StoreState };
 
     /// Two states of one store that agree in all that no call of this trait or of `NodeStore`
     /// changes.

@@ -16,7 +16,7 @@ use Rattle.node_words.specs.declared.keys.Key.TheVariants.{Leaf, Node}
 use Rattle.node_words.specs.Held.{Wanted, name_in}
 use Rattle.node_words.specs.Plans.{Layout, IsPlan}
 use Rattle.node_words.specs.Keys.{bucket_of_key}
-use Rattle.core_laws.specs.places.Spots.{buckets_at, versions}
+use Rattle.core_laws.specs.places.WordIds.{buckets_at, versions}
 use Rattle.core_laws.specs.places.Names.{IsName, HasNames, named, key_bits, key_child}
 use Rattle.core_laws.specs.places.KeyWords.{FitsHalf, IsKeyAt}
 use Rattle.node_words.proofs.PlanLaws.{few_buckets}
@@ -25,7 +25,7 @@ use Rattle.core_laws.specs.Counting.{weight, children_weight}
 use Rattle.node_words.specs.Enough.{HasEnough, enough_stays}
 use Rattle.core_laws.specs.Soundness.{FitsLevel, SoundEntries, IsFull}
 use Rattle.core_laws.specs.Events.{Adds, IsMissing, one_name, children_named}
-use Rattle.core_laws.specs.Standing.{AllStand}
+use Rattle.core_laws.specs.LiveTrees.{AreLiveTrees}
 use Rattle.core_laws.proofs.Enough.{enough}
 use Rattle.core_laws.proofs.EntrySteps.{add_entries, add_keys, given_lives}
 use Rattle.core_laws.proofs.Lives.{child_level}
@@ -36,7 +36,7 @@ use Rattle.core_laws.proofs.Trees.{node_at-same, tree_stays}
 use Rattle.core_laws.proofs.Sums.{is_name}
 use Rattle.one_store.specs.entries.Words.{Written, book_in, key_in}
 use Rattle.one_store.proofs.OfEntries.SlotLaws.{slot_name}
-use Rattle.one_store.specs.notes.Told.{nothing_told}
+use Rattle.one_store.specs.notes.StoreNotes.{no_notes}
 use Rattle.one_store.specs.notes.Changes.{HoldsRow}
 use Rattle.one_store.proofs.OfNotes.HeldLists.{held_closed}
 use Rattle.one_store.specs.declared.sought.SoughtKey.{SoughtKey}
@@ -311,7 +311,7 @@ full_store old new s number st q m =
           })))
           (sym m.told.held) st.sound;
       stand = subst
-          (λ (h : List Tree). AllStand p
+          (λ (h : List Tree). AreLiveTrees p
           (core_of (record {
             words = old.words;
             roots = old.roots;
@@ -341,9 +341,9 @@ full_store old new s number st q m =
 pub begun_store : (w : Written) (roots : List (Option Name)) → IsPlan w.plan
     → ((n : Name) → book_in w n ≡ 0) → length roots ≡ versions
     → ((place : ℕ) → stored_root roots place ≡ None)
-    → IsStore (record { words = w; roots = roots; told = nothing_told }) 0
+    → IsStore (record { words = w; roots = roots; told = no_notes }) 0
 begun_store w roots plan none long empty =
-    let v : Known = record { words = w; roots = roots; told = nothing_told } in
+    let v : Known = record { words = w; roots = roots; told = no_notes } in
     record {
       plan = plan;
       sound = (empty_sound w.plan [] (core_of v) (record {

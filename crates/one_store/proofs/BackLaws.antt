@@ -22,7 +22,7 @@ use Rattle.core_laws.proofs.Lives.{child_lives}
 use Rattle.core_laws.proofs.SeenNodes.{gone_tree}
 use Rattle.one_store.specs.entries.Words.{Written, book_in, key_in}
 use Rattle.one_store.specs.entries.Changes.{OtherBooksStay}
-use Rattle.one_store.specs.notes.Told.{Told}
+use Rattle.one_store.specs.notes.StoreNotes.{StoreNotes}
 use Rattle.one_store.specs.notes.Changes.{MakesNothing, HoldsRow}
 use Rattle.one_store.specs.Known.{Known, IsStore, core_of, tree_in, trees_below}
 use Rattle.one_store.specs.Steps.{Moves, LowersShare, FreesNode, Releases, ReleasesRow, HoldsChild, with_books}
@@ -40,7 +40,7 @@ moves_on a b c p q =
 pub moves_itself : (a : Known) → Moves a a
 moves_itself a = record { words = refl; roots = refl }
 
-pub only_on : (a b c : Told) → MakesNothing a b → MakesNothing b c → MakesNothing a c
+pub only_on : (a b c : StoreNotes) → MakesNothing a b → MakesNothing b c → MakesNothing a c
 only_on a b c p q = record { made = q.made ∙ p.made; met = q.met ∙ p.met }
 
 tree_weight : (v : Known) (n : Name) (f : Tree → ℕ) → weight_of f (tree_in v n) ≡ f (tree_in v n)

@@ -5,7 +5,7 @@ use Rattle.node_words.specs.shapes.Tree.{Tree}
 use Rattle.node_words.specs.shapes.Weights.{weigh, number_of_trees}
 use Rattle.node_words.proofs.OfShapes.WeightLaws.{weigh-nil, weigh-cons}
 use Rattle.core_laws.specs.Worlds.{World}
-use Rattle.core_laws.specs.places.Spots.{levels}
+use Rattle.core_laws.specs.places.WordIds.{levels}
 use Rattle.core_laws.specs.Blocks.{RootsShow, HasBlocks, live_number}
 use Rattle.core_laws.specs.Counting.{if_live}
 use Rattle.core_laws.proofs.LiveNumbers.{live_numbers}

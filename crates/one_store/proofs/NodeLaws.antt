@@ -16,7 +16,7 @@ use Rattle.node_words.specs.Held.{name_in, IsHeld, IsReached, IsSought, Joins, O
 use Rattle.node_words.proofs.HeldLaws.{children_canonical}
 use Rattle.node_words.proofs.KeyLaws.{key_bucket}
 use Rattle.core_laws.specs.places.Names.{HasNames, key_child}
-use Rattle.core_laws.specs.places.Spots.{buckets_at}
+use Rattle.core_laws.specs.places.WordIds.{buckets_at}
 use Rattle.core_laws.specs.States.{IsLive, tree_at}
 use Rattle.core_laws.specs.Events.{IsMissing}
 use Rattle.core_laws.specs.Soundness.{FitsLevel}
@@ -28,7 +28,7 @@ use Rattle.core_laws.proofs.Trees.{node_at-same}
 use Rattle.one_store.specs.entries.Words.{book_in, key_in, HasEntry}
 use Rattle.one_store.specs.notes.Changes.{HoldsRow}
 use Rattle.one_store.specs.declared.sought.SoughtKey.{SoughtKey}
-use Rattle.one_store.specs.Known.{Known, IsStore, known_seen, core_of, tree_in, trees_below}
+use Rattle.one_store.specs.Known.{Known, IsStore, known_state, core_of, tree_in, trees_below}
 use Rattle.one_store.specs.Steps.{RaisesShare, ReleasesRow, AddsNode, MeetsFull, IsSoughtKey, sought_key, tree_over, shape_over}
 use Rattle.one_store.proofs.StoreLaws.{held_name, held_is, book_moves, same_keys}
 use Rattle.one_store.proofs.BackLaws.{held_child, node_tree, octant_branch}
@@ -331,7 +331,7 @@ pub node_grants : (old new : Known) (s : SoughtKey) (n : Name) (number level : �
     (names : List (Option Name)) (row : ℕ → Tree) → IsStore old number → Asks old level names
     → s.level ≡ level → sought_key s ≡ Node names → AddsNode old s n new
     → AreHeld old.told.held names row
-    → Grants (known_seen old) (branch_of (λ j. shape_of (row j))) (known_seen new)
+    → Grants (known_state old) (branch_of (λ j. shape_of (row j))) (known_state new)
 node_grants old new s n number level names row st q e k a h = record {
   plan = a.words.plan;
   made = inr (a.told.made
@@ -412,7 +412,7 @@ pub node_met : (old new : Known) (s : SoughtKey) (number level at bucket : ℕ)
     → IsSoughtKey old.words.plan s → Asks old level names → s.level ≡ level
     → sought_key s ≡ Node names → MeetsFull old s new → at ≡ s.level → bucket ≡ s.bucket
     → AreHeld old.told.held names row
-    → OnlyMeets (known_seen old) at bucket (branch_of (λ j. shape_of (row j))) (known_seen new)
+    → OnlyMeets (known_state old) at bucket (branch_of (λ j. shape_of (row j))) (known_state new)
 node_met old new s number level at bucket names row st sk q e k m f g h =
     let z : level ≡ (level - 1) + 1 = omega (arith, q.above) in
     met_same old new s at bucket (branch_of (λ j. shape_of (row j))) m f g

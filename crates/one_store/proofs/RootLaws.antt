@@ -11,18 +11,18 @@ use Rattle.node_words.specs.shapes.Weights.{weight_of, number_of_trees}
 use Rattle.node_words.proofs.OfShapes.WeightLaws.{weight_of-there}
 use Rattle.node_words.specs.Held.{HoldsName, Wanted}
 use Rattle.node_words.specs.Gathering.{Loses}
-use Rattle.core_laws.specs.places.Spots.{versions}
+use Rattle.core_laws.specs.places.WordIds.{versions}
 use Rattle.core_laws.specs.contents.Aligned.{top}
 use Rattle.core_laws.specs.States.{IsLive, tree_at, shape_in}
 use Rattle.core_laws.specs.Counting.{weight}
 use Rattle.core_laws.specs.Events.{PutsRoot, TakesRoot, EntriesStay, no_weight, at_most_one}
 use Rattle.node_words.specs.Enough.{HasEnough}
 use Rattle.core_laws.specs.Soundness.{SoundEntries}
-use Rattle.core_laws.specs.Standing.{AllStand}
+use Rattle.core_laws.specs.LiveTrees.{AreLiveTrees}
 use Rattle.core_laws.proofs.EntrySteps.{put_root_entries, take_root_entries, keys_stay}
 use Rattle.core_laws.proofs.Lives.{root_lives}
 use Rattle.one_store.specs.entries.Words.{key_in}
-use Rattle.one_store.specs.notes.Told.{Told}
+use Rattle.one_store.specs.notes.StoreNotes.{StoreNotes}
 use Rattle.one_store.specs.notes.Changes.{MakesNothing, NotesGain, NotesLoss}
 use Rattle.one_store.proofs.OfNotes.HeldLists.{held_gained, held_lost}
 use Rattle.one_store.specs.Known.{Known, IsStore, core_of, tree_in, stored_root, root_tree}
@@ -32,14 +32,14 @@ use Rattle.one_store.proofs.StoreLaws.{held_weighs, tree_weighs}
 use Rattle.one_store.proofs.BackLaws.{released_none}
 
 -- the store with other roots and notes
-abbrev pub with_roots : Known → List (Option Name) → Told → Known
+abbrev pub with_roots : Known → List (Option Name) → StoreNotes → Known
 with_roots v roots told = record { words = v.words; roots = roots; told = told }
 
 -- a step that changes roots and what is held keeps the store one
-rooted_store : (old : Known) (roots : List (Option Name)) (told : Told) (number left : ℕ)
+rooted_store : (old : Known) (roots : List (Option Name)) (told : StoreNotes) (number left : ℕ)
     → IsStore old number → MakesNothing old.told told
     → SoundEntries old.words.plan (core_of (with_roots old roots told))
-    → AllStand old.words.plan (core_of (with_roots old roots told)) told.held
+    → AreLiveTrees old.words.plan (core_of (with_roots old roots told)) told.held
     → left ≡ number_of_trees told.held → length roots ≡ versions
     →
     ((place : ℕ) (n : Name) → stored_root roots place ≡ Some n → n.level
@@ -62,12 +62,12 @@ rooted_store old roots told number left st only sound stand count long tops =
       tops = tops;
     }
 
-entries_same : (old : Known) (roots : List (Option Name)) (told : Told)
+entries_same : (old : Known) (roots : List (Option Name)) (told : StoreNotes)
     → EntriesStay old.words.plan (core_of old) (core_of (with_roots old roots told))
 entries_same old roots told = record { book = λ m i. refl; key = λ m l. refl }
 
 -- a root comes to its place
-pub keep_event : (old : Known) (told : Told) (place : ℕ) (n : Name) (number : ℕ)
+pub keep_event : (old : Known) (told : StoreNotes) (place : ℕ) (n : Name) (number : ℕ)
     → IsStore old number → place < versions → stored_root old.roots place ≡ None
     → HoldsName old.told.held n → NotesLoss old.told (tree_in old n) told
     → PutsRoot old.words.plan 0 place (Some n) (core_of old)
@@ -87,7 +87,7 @@ pub top_tree : (v : Known) (n : Name) → n.level ≡ top v.words.plan.side
     → root_tree v (Some n) ≡ tree_in v n
 top_tree v n e = ap (λ (l : ℕ). tree_at (key_in v.words) l (Some n)) (sym e)
 
-pub keeps_root : (old : Known) (told : Told) (place : ℕ) (n : Name) (number : ℕ)
+pub keeps_root : (old : Known) (told : StoreNotes) (place : ℕ) (n : Name) (number : ℕ)
     → IsStore old number → place < versions → n.level ≡ top old.words.plan.side
     → NotesLoss old.told (tree_in old n) told
     → KeepsRoot old place (Some n) (with_roots old (set old.roots place (Some n)) told)
@@ -120,7 +120,7 @@ set_tops side roots place at n m lt e tops q = elim (cases_eq at place) [
   | inr ne ↦ tops at m (sym (get_or-set_other roots place at (Some n) None ne) ∙ q)
 ]
 
-pub keep_store : (old : Known) (told : Told) (place : ℕ) (n : Name) (number : ℕ)
+pub keep_store : (old : Known) (told : StoreNotes) (place : ℕ) (n : Name) (number : ℕ)
     → IsStore old number → place < versions → stored_root old.roots place ≡ None
     → HoldsName old.told.held n → n.level ≡ top old.words.plan.side
     → NotesLoss old.told (tree_in old n) told
@@ -169,7 +169,7 @@ pub root_live : (v : Known) (number place : ℕ) (n : Name) → IsStore v number
     → stored_root v.roots place ≡ Some n → IsLive v.words.plan (core_of v) n
 root_live v number place n st lt e = root_lives v.words.plan (core_of v) place n st.sound lt e
 
-pub take_event : (old : Known) (told : Told) (place : ℕ) (n : Name) (number : ℕ)
+pub take_event : (old : Known) (told : StoreNotes) (place : ℕ) (n : Name) (number : ℕ)
     → IsStore old number → place < versions → stored_root old.roots place ≡ Some n
     → NotesGain old.told (tree_in old n) told
     → TakesRoot old.words.plan 0 place (core_of old)
@@ -184,7 +184,7 @@ take_event old told place n number st lt e t = record {
       (λ f. omega (arith, t.gains.weighs (root_weight f), tree_weighs old n f, ap (weight f) e));
 }
 
-pub gives_root : (old : Known) (told : Told) (place : ℕ) (n : Name) (number : ℕ)
+pub gives_root : (old : Known) (told : StoreNotes) (place : ℕ) (n : Name) (number : ℕ)
     → IsStore old number → place < versions → stored_root old.roots place ≡ Some n
     → NotesGain old.told (tree_in old n) told
     → GivesRoot old place (with_roots old (set old.roots place None) told)
@@ -218,7 +218,7 @@ empty_tops side roots place at m lt tops q = elim (cases_eq at place) [
   | inr ne ↦ tops at m (sym (get_or-set_other roots place at None None ne) ∙ q)
 ]
 
-pub take_store : (old : Known) (told : Told) (place : ℕ) (n : Name) (number : ℕ)
+pub take_store : (old : Known) (told : StoreNotes) (place : ℕ) (n : Name) (number : ℕ)
     → IsStore old number → place < versions → stored_root old.roots place ≡ Some n
     → NotesGain old.told (tree_in old n) told
     → IsStore (with_roots old (set old.roots place None) told) (number + 1)

@@ -9,7 +9,7 @@ use Rattle.node_words.specs.shapes.Weights.{weight_of}
 use Rattle.node_words.proofs.OfShapes.WeightLaws.{weight_of-there}
 use Rattle.node_words.specs.Gathering.{Loses}
 use Rattle.node_words.specs.Plans.{Layout}
-use Rattle.core_laws.specs.places.Spots.{versions}
+use Rattle.core_laws.specs.places.WordIds.{versions}
 use Rattle.core_laws.specs.contents.Aligned.{top}
 use Rattle.core_laws.specs.States.{IsLive, tree_at}
 use Rattle.core_laws.specs.Events.{Adds, IsMissing, KeysStay}

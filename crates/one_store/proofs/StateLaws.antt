@@ -16,7 +16,7 @@ use Rattle.core_laws.specs.States.{State, IsLive, Holds, tree_at, tree_of}
 use Rattle.core_laws.specs.Counting.{weight, children_weight, holdings}
 use Rattle.core_laws.specs.Events.{Trades, KeysStay}
 use Rattle.core_laws.specs.Soundness.{SoundEntries}
-use Rattle.core_laws.specs.Standing.{Stands, StandsOrGone, AllStand}
+use Rattle.core_laws.specs.LiveTrees.{IsLiveTree, IsLiveOrGone, AreLiveTrees}
 use Rattle.core_laws.proofs.Lives.{child_lives, child_level, held_lives}
 use Rattle.core_laws.proofs.SeenNodes.{gone_tree}
 use Rattle.core_laws.proofs.StepLaws.{tree_kept}
@@ -159,12 +159,12 @@ pub live_held : (p : Layout) (v : Known) (t : Tree) (n : Name) → SoundEntries 
     → IsHeld v.told.held t → root_of t ≡ Some n → IsLive p (core_of v) n
 live_held p v t n s h e = held_lives p (core_of v) 0 n s (held_names v.told.held t n h e)
 
-pub root_stands : (p : Layout) (state : State) (t : Tree) (s : Stands p state t)
+pub root_stands : (p : Layout) (state : State) (t : Tree) (s : IsLiveTree p state t)
     → root_of t ≡ Some s.name
 root_stands p state t s = ap root_of (sym s.tree) ∙ tree_root state.key s.name.level s.name
 
 -- the name at which a standing tree begins, with its tree
-pub standing_at : (p : Layout) (state : State) (t : Tree) (n : Name) → StandsOrGone p state t
+pub standing_at : (p : Layout) (state : State) (t : Tree) (n : Name) → IsLiveOrGone p state t
     → root_of t ≡ Some n → IsLive p state n × (tree_of state n ≡ t)
 standing_at p state t n (inl gone) e = absurd (none-some n (ap root_of (sym gone) ∙ e))
 standing_at p state t n (inr s) e =
@@ -177,8 +177,8 @@ standing_at p state t n (inr s) e =
 -- what is held after a step stands where it stood before or stands now
 pub stand_again : (p : Layout) (old new : Known) → SoundEntries p (core_of old)
     → SoundEntries p (core_of new) → KeysStay p (core_of old) (core_of new)
-    → ((t : Tree) → IsHeld new.told.held t → Stands p (core_of old) t ⊎ Stands p (core_of new) t)
-    → AllStand p (core_of new) new.told.held
+    → ((t : Tree) → IsHeld new.told.held t → IsLiveTree p (core_of old) t ⊎ IsLiveTree p (core_of new) t)
+    → AreLiveTrees p (core_of new) new.told.held
 stand_again p old new so sn keys h = record {
   each = λ t i. elim (h t i) [
     | inl s ↦ (let live = live_held p new t s.name sn i (root_stands p (core_of old) t s) in
@@ -195,7 +195,7 @@ stand_again p old new so sn keys h = record {
 -- a child of a live entry stands
 child_stands : (p : Layout) (state : State) (n : Name) (k : ℕ) (o : Option Name)
     → SoundEntries p state → IsLive p state n → k < 8 → key_child (state.key n) k ≡ o
-    → tree_at state.key (n.level - 1) o ≢ Gone → Stands p state (tree_at state.key (n.level - 1) o)
+    → tree_at state.key (n.level - 1) o ≢ Gone → IsLiveTree p state (tree_at state.key (n.level - 1) o)
 child_stands p state n k None s live lt e some = absurd (some (gone_tree state.key (n.level - 1)))
 child_stands p state n k (Some m) s live lt e some =
     let lower = child_level n.level (state.key n) m k (s.fits n live) lt e in
@@ -209,9 +209,9 @@ child_stands p state n k (Some m) s live lt e some =
 
 pub octant_stands : (p : Layout) (state : State) (n : Name) (k : ℕ) (t : Tree)
     → SoundEntries p state → IsLive p state n → k < 8
-    → t ≡ trees_below state.key (n.level - 1) (state.key n) k → t ≢ Gone → Stands p state t
+    → t ≡ trees_below state.key (n.level - 1) (state.key n) k → t ≢ Gone → IsLiveTree p state t
 octant_stands p state n k t s live lt e some =
-    subst (λ (u : Tree). Stands p state u) (sym e)
+    subst (λ (u : Tree). IsLiveTree p state u) (sym e)
     (child_stands p state n k (key_child (state.key n) k) s live lt refl (λ g. some (e ∙ g)))
 
 -- where one book changes, what is live was live, if its own name was

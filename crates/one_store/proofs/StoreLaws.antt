@@ -12,12 +12,12 @@ use Rattle.node_words.specs.declared.keys.Key.{Key}
 use Rattle.node_words.specs.Held.{IsHeld, HoldsName, Wanted}
 use Rattle.node_words.specs.Plans.{Layout}
 use Rattle.core_laws.specs.places.Names.{IsName}
-use Rattle.core_laws.specs.places.Spots.{levels}
+use Rattle.core_laws.specs.places.WordIds.{levels}
 use Rattle.core_laws.specs.States.{IsLive, tree_at, shape_in}
 use Rattle.core_laws.specs.Counting.{weight, children_weight}
 use Rattle.node_words.specs.Enough.{HasEnough}
 use Rattle.core_laws.specs.Soundness.{SoundEntries}
-use Rattle.core_laws.specs.Standing.{AllStand}
+use Rattle.core_laws.specs.LiveTrees.{AreLiveTrees}
 use Rattle.core_laws.specs.Events.{Raises, Lowers, Frees, OthersStay, RootsStay, no_weight, one_name, children_named}
 use Rattle.core_laws.proofs.EntrySteps.{raise_entries, lower_entries, free_entries, raise_keys, lower_keys, free_keys}
 use Rattle.core_laws.proofs.Bounds.{book_small}
@@ -58,7 +58,7 @@ same_keys a b m = ap key_in m.words
 -- a step that changes books alone keeps the store one
 moved_store : (old new : Known) (number left : ℕ) → IsStore old number → Moves old new
     → MakesNothing old.told new.told → SoundEntries old.words.plan (core_of new)
-    → AllStand old.words.plan (core_of new) new.told.held
+    → AreLiveTrees old.words.plan (core_of new) new.told.held
     → ((m : Name) → IsLive old.words.plan (core_of new) m → IsLive old.words.plan (core_of old) m)
     → left ≡ number_of_trees new.told.held → IsStore new left
 moved_store old new number left st m only sound stand was count =

@@ -16,20 +16,20 @@ use Rattle.node_words.specs.Plans.{Layout}
 use Rattle.node_words.specs.Held.{IsHeld, IsReached, HoldsName, ReachesName, AreTrees, AreCanonical, Gains, OnlyHeldChanges, OnlyMeets, Grants, ReturnsWithin, IsSought}
 use Rattle.node_words.specs.Keys.{bucket_of_key, of_leaf}
 use Rattle.node_words.proofs.KeyLaws.{key_bucket}
-use Rattle.core_laws.specs.places.Spots.{levels, buckets_at}
+use Rattle.core_laws.specs.places.WordIds.{levels, buckets_at}
 use Rattle.core_laws.specs.places.Names.{HasNames, key_bits, key_child}
 use Rattle.core_laws.specs.States.{State, IsLive, tree_at}
 use Rattle.core_laws.specs.Counting.{children_weight}
 use Rattle.core_laws.specs.Events.{IsMissing}
 use Rattle.core_laws.specs.Soundness.{SoundEntries, FitsLevel}
-use Rattle.core_laws.specs.Standing.{AllStand}
+use Rattle.core_laws.specs.LiveTrees.{AreLiveTrees}
 use Rattle.core_laws.proofs.Frees.{returns_within}
 use Rattle.core_laws.proofs.SeenNodes.{leaf_tree}
 use Rattle.core_laws.proofs.Standings.{parts_stand, standing_trees, standing_canonical}
 use Rattle.one_store.specs.entries.Words.{Written, book_in, key_in, HasEntry}
 use Rattle.one_store.specs.notes.Changes.{HoldsRow}
 use Rattle.one_store.specs.declared.sought.SoughtKey.{SoughtKey}
-use Rattle.one_store.specs.Known.{Known, IsStore, known_seen, core_of, tree_in, trees_below}
+use Rattle.one_store.specs.Known.{Known, IsStore, known_state, core_of, tree_in, trees_below}
 use Rattle.one_store.specs.Steps.{Moves, RaisesShare, Releases, AddsNode, MeetsFull, IsSoughtKey, sought_key, tree_over, shape_over}
 use Rattle.one_store.proofs.StateLaws.{row_root, standing_at}
 use Rattle.one_store.proofs.StoreLaws.{held_name, held_is, book_moves, same_plan, same_keys}
@@ -84,7 +84,7 @@ raised_gains old new number t n s r h e =
     (reached old number t n s h e).1 r.told.gains
 
 pub raised_only : (old new : Known) (n : Name) → RaisesShare old n new
-    → OnlyHeldChanges (known_seen old) (known_seen new)
+    → OnlyHeldChanges (known_state old) (known_state new)
 raised_only old new n r =
     record {
       plan = same_plan old new
@@ -105,7 +105,7 @@ back_gains old new number steps now t n s r h e =
     }
 
 pub back_only : (old new : Known) (t : Tree) (steps now : ℕ) → Releases old t new steps now
-    → OnlyHeldChanges (known_seen old) (known_seen new)
+    → OnlyHeldChanges (known_state old) (known_state new)
 back_only old new t steps now r =
     record { plan = same_plan old new r.moves; made = r.only.made; met = r.only.met }
 
@@ -115,12 +115,12 @@ core_after old new = record (core_of new) { key = key_in old.words }
 
 pub sound_after : (old new : Known) (number : ℕ) → IsStore new number → Moves old new
     → SoundEntries old.words.plan (core_after old new)
-    × AllStand old.words.plan (core_after old new) new.told.held
+    × AreLiveTrees old.words.plan (core_after old new) new.told.held
 sound_after old new number s m =
     subst (λ (p : Layout). SoundEntries p (core_after old new)
-    × AllStand p (core_after old new) new.told.held) (same_plan old new m)
+    × AreLiveTrees p (core_after old new) new.told.held) (same_plan old new m)
     (subst (λ (k : Name → Key). SoundEntries new.words.plan (record (core_of new) { key = k })
-    × AllStand new.words.plan (record (core_of new) { key = k }) new.told.held)
+    × AreLiveTrees new.words.plan (record (core_of new) { key = k }) new.told.held)
     (same_keys old new m) (s.sound, s.stand))
 
 pub back_turns : (old new : Known) (number left steps now : ℕ) (t : Tree) (n : Name)
@@ -257,7 +257,7 @@ leaf_added old new s n bits z k a = record {
 
 pub leaf_grants : (old new : Known) (s : SoughtKey) (n : Name) (bits : ℕ) → s.level ≡ 0
     → sought_key s ≡ Leaf bits → AddsNode old s n new
-    → Grants (known_seen old) (shape.Leaf bits) (known_seen new)
+    → Grants (known_state old) (shape.Leaf bits) (known_state new)
 leaf_grants old new s n bits z k a = record {
   plan = a.words.plan;
   made = inr (a.told.made
@@ -267,7 +267,7 @@ leaf_grants old new s n bits z k a = record {
 }
 
 pub leaf_shares : (old new : Known) (n : Name) (t : Shape) → RaisesShare old n new
-    → Grants (known_seen old) t (known_seen new)
+    → Grants (known_state old) t (known_state new)
 leaf_shares old new n t r =
     record {
       plan = same_plan old new
@@ -280,7 +280,7 @@ pub met_same : (old new : Known) (s : SoughtKey) (level bucket : ℕ) (t : Shape
     → MeetsFull old s new → level ≡ s.level → bucket ≡ s.bucket
     → shape_over s.level (key_in old.words) (sought_key s) ≡ t
     → IsSought old.words.plan (record { level = s.level; bucket = s.bucket; shape = t })
-    → OnlyMeets (known_seen old) level bucket t (known_seen new)
+    → OnlyMeets (known_state old) level bucket t (known_state new)
 met_same old new s level bucket t m e f g sought = record {
   sought = subst
       (λ (l : ℕ). IsSought old.words.plan (record { level = l; bucket = bucket; shape = t }))
@@ -341,7 +341,7 @@ leaf_sought p s bits q z k =
 pub leaf_met : (old new : Known) (s : SoughtKey) (level bucket bits : ℕ)
     → IsSoughtKey old.words.plan s → MeetsFull old s new → level ≡ s.level → bucket ≡ s.bucket
     → s.level ≡ 0 → sought_key s ≡ Leaf bits
-    → OnlyMeets (known_seen old) level bucket (shape.Leaf bits) (known_seen new)
+    → OnlyMeets (known_state old) level bucket (shape.Leaf bits) (known_state new)
 leaf_met old new s level bucket bits q m e f z k =
     met_same old new s level bucket (shape.Leaf bits) m e f
     (shape_leaf (key_in old.words) s.level (sought_key s) bits z k)

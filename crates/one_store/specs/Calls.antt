@@ -3,7 +3,7 @@ use Rattle.std.specs.Prelude.{◌≡◌, ℕ, ◌+◌, ◌-◌, ◌≤◌, ◌�
 use Rattle.node_words.specs.declared.shapes.names.Name.{Name}
 use Rattle.node_words.specs.declared.keys.Key.{Key}
 use Rattle.node_words.specs.Keys.{bucket_of_key}
-use Rattle.core_laws.specs.places.Spots.{buckets_at}
+use Rattle.core_laws.specs.places.WordIds.{buckets_at}
 use Rattle.core_laws.specs.Soundness.{IsFull}
 use Rattle.one_store.specs.entries.Words.{book_in, key_in, IsLowestFree}
 use Rattle.one_store.specs.entries.Changes.{SetsBook, PutsEntry}

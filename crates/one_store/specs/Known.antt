@@ -6,26 +6,26 @@ use Rattle.node_words.specs.declared.shapes.names.Name.{Name}
 use Rattle.node_words.specs.shapes.Tree.{Tree, root_of}
 use Rattle.node_words.specs.shapes.Weights.{number_of_trees}
 use Rattle.node_words.specs.declared.keys.Key.{Key}
-use Rattle.node_words.specs.Held.{Seen}
+use Rattle.node_words.specs.Held.{StoreState}
 use Rattle.node_words.specs.Plans.{Layout, IsPlan}
 use Rattle.core_laws.specs.places.Names.{key_child}
-use Rattle.core_laws.specs.places.Spots.{versions}
+use Rattle.core_laws.specs.places.WordIds.{versions}
 use Rattle.one_store.specs.entries.Words.{Written, book_in, key_in}
-use Rattle.one_store.specs.notes.Told.{Told}
+use Rattle.one_store.specs.notes.StoreNotes.{StoreNotes}
 use Rattle.core_laws.specs.contents.Aligned.{top}
 use Rattle.core_laws.specs.States.{State, IsLive, tree_at, shape_in}
 use Rattle.node_words.specs.Enough.{HasEnough}
 use Rattle.core_laws.specs.Soundness.{SoundEntries}
-use Rattle.core_laws.specs.Standing.{AllStand}
+use Rattle.core_laws.specs.LiveTrees.{AreLiveTrees}
 
 -- the words of the entries, the roots by place, and what was noted
 pub record Known : Type 0 where
   pub words : Written
   pub roots : List (Option Name)
-  pub told : Told
+  pub told : StoreNotes
 
-abbrev pub known_seen : Known → Seen
-known_seen v =
+abbrev pub known_state : Known → StoreState
+known_state v =
     record { plan = v.words.plan; held = v.told.held; made = v.told.made; met = v.told.met }
 
 -- the names at which held trees begin
@@ -68,7 +68,7 @@ root_tree v root = tree_at (key_in v.words) (top v.words.plan.side) root
 pub record IsStoreOf (p : Layout) (v : Known) (number : ℕ) : Type 0 where
   pub plan : IsPlan p
   pub sound : SoundEntries p (core_of v)
-  pub stand : AllStand p (core_of v) v.told.held
+  pub stand : AreLiveTrees p (core_of v) v.told.held
   pub number_is : number ≡ number_of_trees v.told.held
   pub listed : (n : Name) → IsLive p (core_of v) n → Contains v.told.made (shape_in (core_of v) n)
   pub enough : All (λ w. HasEnough p v.told.made w.level w.bucket) v.told.met

@@ -10,7 +10,7 @@ use Rattle.node_words.specs.Gathering.{Loses, LosesAll}
 use Rattle.node_words.specs.Keys.{bucket_of_key}
 use Rattle.node_words.specs.Plans.{Layout}
 use Rattle.core_laws.specs.places.Names.{HasNames, named, key_bits}
-use Rattle.core_laws.specs.places.Spots.{levels, buckets_at}
+use Rattle.core_laws.specs.places.WordIds.{levels, buckets_at}
 use Rattle.core_laws.specs.Soundness.{FitsLevel}
 use Rattle.core_laws.specs.Returning.{FreesParts}
 use Rattle.one_store.specs.entries.Slots.{IsBucket}

@@ -2,8 +2,8 @@
 //! or the words of a node.
 //!
 //! All memory is taken at the start. Books and words have a row for each level, and all words of a
-//! node stand side by side (`specs/entries/Slots.antt`). How the words are read as books and keys is said
-//! in `specs/entries/Words.antt`, and how they change in `specs/entries/Changes.antt`.
+//! node stand side by side (`specs/entries/Slots.antt`). How the words are read as books and keys
+//! is said in `specs/entries/Words.antt`, and how they change in `specs/entries/Changes.antt`.
 
 mod ends;
 mod entries;

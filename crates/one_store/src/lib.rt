@@ -7,9 +7,9 @@
 
 mod entries;
 mod notes;
+mod noting;
 mod sought;
 mod store;
-mod telling;
 mod traits;
 
 pub use entries::{EntryWords, KeyWords, Pairs, slots_are_apart, words_of};

@@ -4,7 +4,7 @@ ghost use Rattle.node_words.specs.declared.shapes.names.Name.{Name};
 ghost use Rattle.node_words.specs.shapes.Weights.{number_of_trees};
 ghost use Rattle.node_words.specs.declared.keys.Key.TheVariants.{Node};
 ghost use Rattle.node_words.specs.Held.{HoldsName, AreBelow};
-ghost use Rattle.core_laws.specs.places.Spots.{levels, versions};
+ghost use Rattle.core_laws.specs.places.WordIds.{levels, versions};
 ghost use Rattle.core_laws.specs.places.Names.{IsName, HasNames};
 ghost use Rattle.core_laws.specs.States.{IsLive, tree_at};
 ghost use Rattle.core_laws.specs.Counting.{weight, children_weight, if_live};
@@ -16,9 +16,9 @@ ghost use Rattle.core_laws.specs.Worlds.{World};
 ghost use Rattle.core_laws.specs.contents.Aligned.{top};
 ghost use Rattle.one_store.specs.entries.Slots.{IsBucket};
 ghost use Rattle.one_store.specs.entries.Words.{book_in, key_in, HasEntry};
-ghost use Rattle.one_store.specs.notes.Told.{nothing_told};
+ghost use Rattle.one_store.specs.notes.StoreNotes.{no_notes};
 ghost use Rattle.one_store.specs.notes.Changes.{HoldsRow};
-ghost use Rattle.one_store.specs.Known.{Known, IsStore, core_of, known_seen, tree_in, trees_below, stored_root};
+ghost use Rattle.one_store.specs.Known.{Known, IsStore, core_of, known_state, tree_in, trees_below, stored_root};
 ghost use Rattle.one_store.specs.Steps.{
   RaisesShare,
   LowersShare,
@@ -38,8 +38,8 @@ ghost use Rattle.one_store.specs.Calls.{GivesBack};
 
 use crate::entries::{EntryWords, words_of};
 use crate::notes::Notes;
+use crate::noting::{note_entry, note_freeing, note_full, note_gain, note_loss};
 use crate::sought::SoughtKey;
-use crate::telling::{tell_entry, tell_freeing, tell_full, tell_gain, tell_loss};
 use node_words::{Full, Key, Name, Plan, Share, Steps};
 use std::alloc::{AllocError, Global};
 use std::marker::{Brand, Model};
@@ -59,12 +59,12 @@ pub struct OneStore {
 
 impl Model for OneStore {
     ghost use Rattle.std.specs.Coded.{codes};
-    ghost use Rattle.one_store.specs.notes.Told.{coded_told};
+    ghost use Rattle.one_store.specs.notes.StoreNotes.{coded_notes};
     ghost use Rattle.one_store.specs.Known.{Known, IsStore};
 
     ghost Value = { Known };
 
-    ghost coded = { Prim.hlevel (codes, coded_told) };
+    ghost coded = { Prim.hlevel (codes, coded_notes) };
 
     ghost view = { λ s. record { words = s.words; roots = s.roots.items; told = s.notes } };
 
@@ -78,7 +78,7 @@ impl OneStore {
         ensures plan { IfOk result (λ s. s.words.plan ≡ plan.now) }
         ensures free { IfOk result (λ s. (n : Name) → book_in s.words n ≡ 0) }
         ensures roots { IfOk result (λ s. (place : ℕ) → stored_root s.roots place ≡ None) }
-        ensures told { IfOk result (λ s. s.told ≡ nothing_told) }
+        ensures told { IfOk result (λ s. s.told ≡ no_notes) }
     {
         Ok(OneStore {
             words: EntryWords::begin(alloc, plan)?,
@@ -113,7 +113,7 @@ impl OneStore {
         ensures event { PutsRoot self.old.words.plan 0 place (Some n) (core_of self.old)
             (core_of self.new) }
     {
-        tell_loss::<Brand>(&mut self.notes, &self.words, n);
+        note_loss::<Brand>(&mut self.notes, &self.words, n);
         self.roots[place] = Some(n);
         self.number -= 1;
     }
@@ -148,7 +148,7 @@ impl OneStore {
         ensures event { TakesRoot self.old.words.plan 0 place (core_of self.old)
             (core_of self.new) }
     {
-        tell_gain::<Brand>(&mut self.notes, &self.words, n);
+        note_gain::<Brand>(&mut self.notes, &self.words, n);
         self.roots[place] = None;
         self.number += 1;
     }
@@ -223,7 +223,7 @@ impl OneStore {
 
     /// How many shares are held.
     pub fn number(&self) -> u32
-        ensures number { result ≡ number_of_trees (known_seen self.now).held }
+        ensures number { result ≡ number_of_trees (known_state self.now).held }
         ensures store { IsStore self.now result }
     {
         self.number
@@ -237,7 +237,7 @@ impl OneStore {
         ensures share { result ≡ n }
     {
         let book = self.words.book(n);
-        tell_gain::<Brand>(&mut self.notes, &self.words, n);
+        note_gain::<Brand>(&mut self.notes, &self.words, n);
         self.words.set_book(n, book + 1);
         self.number += 1;
         Share::of_store(n)
@@ -250,7 +250,7 @@ impl OneStore {
         ensures { LowersShare self.old n self.new }
     {
         let book = self.words.book(n);
-        tell_loss::<Brand>(&mut self.notes, &self.words, n);
+        note_loss::<Brand>(&mut self.notes, &self.words, n);
         self.words.set_book(n, book - 1);
         self.number -= 1;
     }
@@ -263,7 +263,7 @@ impl OneStore {
         requires room { number_of_trees self.old.told.held ≤ 8192 }
         ensures { FreesNode self.old n self.new }
     {
-        tell_freeing::<Brand>(&mut self.notes, &self.words, n);
+        note_freeing::<Brand>(&mut self.notes, &self.words, n);
         self.words.clear(n);
         self.number = self.number - 1 + children;
     }
@@ -335,13 +335,13 @@ impl OneStore {
                     bucket,
                     slot,
                 };
-                tell_entry::<Brand>(&mut self.notes, &self.words, n, sought);
+                note_entry::<Brand>(&mut self.notes, &self.words, n, sought);
                 self.words.open(n, sought.words);
                 self.number = self.number + 1 - children;
                 Ok(Share::of_store(n))
             }
             None => {
-                tell_full::<Brand>(&mut self.notes, &self.words, sought);
+                note_full::<Brand>(&mut self.notes, &self.words, sought);
                 Err(Full { level, bucket })
             }
         }

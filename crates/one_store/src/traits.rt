@@ -8,10 +8,10 @@ use node_words::{
 use std::sync::ledger::Ledger;
 
 impl Blocks for OneStore {
-    ghost use Rattle.one_store.specs.Known.{known_seen};
+    ghost use Rattle.one_store.specs.Known.{known_state};
     ghost use Rattle.one_store.specs.Steps.{SparesRoots, spares_itself, spares_on};
 
-    ghost seen = { known_seen };
+    ghost seen = { known_state };
 
     ghost rests = { SparesRoots };
 
@@ -42,7 +42,7 @@ impl NodeStore for OneStore {
     ghost use Rattle.node_words.specs.Held.{OnlyMeets, Grants, ReturnsWithin};
     ghost use Rattle.core_laws.specs.Events.{IsMissing};
     ghost use Rattle.one_store.specs.entries.Words.{HasEntry};
-    ghost use Rattle.one_store.specs.Known.{core_of, known_seen};
+    ghost use Rattle.one_store.specs.Known.{core_of, known_state};
     ghost use Rattle.one_store.specs.Steps.{SparesRoots};
     ghost use Rattle.one_store.specs.Calls.{SharesEntry, JoinsEntry, MakesEntry, FindsFull, GivesBack};
 
@@ -52,18 +52,18 @@ impl NodeStore for OneStore {
 
     fn leaf<L: Ledger>(&mut self, bits: u64, steps: &mut Steps<L>) -> Result<Share, Full>
         requires bits { bits ≢ 0 }
-        requires room { number_of_trees (known_seen self.old).held ≤ 4095 }
+        requires room { number_of_trees (known_state self.old).held ≤ 4095 }
         ensures held { IfOk result
-            (λ n. Gains (known_seen self.old).held (LeafAt n bits) (known_seen self.new).held) }
+            (λ n. Gains (known_state self.old).held (LeafAt n bits) (known_state self.new).held) }
         ensures level { IfOk result (λ n. n.level ≡ 0) }
         ensures grants { OnOk result
-            (Grants (known_seen self.old) (shape.Leaf bits) (known_seen self.new)) }
-        ensures hit { (n : Name) → IsReached (known_seen self.old).held (LeafAt n bits)
+            (Grants (known_state self.old) (shape.Leaf bits) (known_state self.new)) }
+        ensures hit { (n : Name) → IsReached (known_state self.old).held (LeafAt n bits)
             → IsOkAnd result
-            (λ m. (m ≡ n) × ((known_seen self.new).made ≡ (known_seen self.old).made)) }
+            (λ m. (m ≡ n) × ((known_state self.new).made ≡ (known_state self.old).made)) }
         ensures full { IfErr result
-            (λ e. OnlyMeets (known_seen self.old) e.level e.bucket (shape.Leaf bits)
-            (known_seen self.new)) }
+            (λ e. OnlyMeets (known_state self.old) e.level e.bucket (shape.Leaf bits)
+            (known_state self.new)) }
         ensures full_level { IfErr result (λ e. e.level ≡ 0) }
         ensures rests { SparesRoots self.old self.new }
         ensures turns { steps.new ≡ steps.old + 1 }
@@ -90,27 +90,27 @@ impl NodeStore for OneStore {
         children: [Option<Share>; 8],
         steps: &mut Steps<L>,
     ) -> Result<Share, NodeRefused>
-        requires level { (1 ≤ level) × (level + 2 ≤ (known_seen self.old).plan.side) }
+        requires level { (1 ≤ level) × (level + 2 ≤ (known_state self.old).plan.side) }
         requires some { HasChild children }
         requires below { AreBelow level children }
-        requires held { HoldsChildren (known_seen self.old).held children }
-        requires room { number_of_trees (known_seen self.old).held ≤ 4088 }
+        requires held { HoldsChildren (known_state self.old).held children }
+        requires room { number_of_trees (known_state self.old).held ≤ 4088 }
         ensures held { IfOk result
-            (λ n. ForChildren (known_seen self.old).held children
-            (λ row. Joins (known_seen self.old).held row n (known_seen self.new).held)) }
+            (λ n. ForChildren (known_state self.old).held children
+            (λ row. Joins (known_state self.old).held row n (known_state self.new).held)) }
         ensures level { IfOk result (λ n. n.level ≡ level) }
         ensures grants { OnOk result
-            (ForChildren (known_seen self.old).held children
-            (λ row. Grants (known_seen self.old) (branch_of (λ k. shape_of (row k)))
-            (known_seen self.new))) }
-        ensures hit { ForChildren (known_seen self.old).held children
-            (λ row. (n : Name) → IsReached (known_seen self.old).held (node_at n row)
+            (ForChildren (known_state self.old).held children
+            (λ row. Grants (known_state self.old) (branch_of (λ k. shape_of (row k)))
+            (known_state self.new))) }
+        ensures hit { ForChildren (known_state self.old).held children
+            (λ row. (n : Name) → IsReached (known_state self.old).held (node_at n row)
             → IsOkAnd result
-            (λ m. (m ≡ n) × ((known_seen self.new).made ≡ (known_seen self.old).made))) }
+            (λ m. (m ≡ n) × ((known_state self.new).made ≡ (known_state self.old).made))) }
         ensures full { IfErr result
-            (λ e. ForChildren (known_seen self.old).held children
-            (λ row. OnlyMeets (known_seen self.old) e.full.level e.full.bucket
-            (branch_of (λ k. shape_of (row k))) (known_seen self.new))) }
+            (λ e. ForChildren (known_state self.old).held children
+            (λ row. OnlyMeets (known_state self.old) e.full.level e.full.bucket
+            (branch_of (λ k. shape_of (row k))) (known_state self.new))) }
         ensures full_level { IfErr result (λ e. e.full.level ≡ level) }
         ensures back { IfErr result (λ e. e.children ≡ children) }
         ensures rests { SparesRoots self.old self.new }
@@ -158,14 +158,14 @@ impl NodeStore for OneStore {
     }
 
     fn back<L: Ledger>(&mut self, share: Share, steps: &mut Steps<L>)
-        requires held { HoldsName (known_seen self.old).held share }
-        requires room { number_of_trees (known_seen self.old).held ≤ 4008 }
-        ensures held { ForHeld (known_seen self.old).held share
-            (λ t. Gains (known_seen self.new).held t (known_seen self.old).held) }
-        ensures only { OnlyHeldChanges (known_seen self.old) (known_seen self.new) }
+        requires held { HoldsName (known_state self.old).held share }
+        requires room { number_of_trees (known_state self.old).held ≤ 4008 }
+        ensures held { ForHeld (known_state self.old).held share
+            (λ t. Gains (known_state self.new).held t (known_state self.old).held) }
+        ensures only { OnlyHeldChanges (known_state self.old) (known_state self.new) }
         ensures rests { SparesRoots self.old self.new }
-        ensures turns { ForHeld (known_seen self.old).held share
-            (λ t. ReturnsWithin (known_seen self.new).held (shape_of t) steps.old steps.new) }
+        ensures turns { ForHeld (known_state self.old).held share
+            (λ t. ReturnsWithin (known_state self.new).held (shape_of t) steps.old steps.new) }
         ensures book { GivesBack self.old share self.new }
     {
         let _number = self.number();

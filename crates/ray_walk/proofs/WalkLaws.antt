@@ -7,7 +7,7 @@ use Rattle.vw_cell.specs.declared.boxes.Boxed.{Boxed}
 use Rattle.vw_cell.specs.Places.{block_side, IsInWorld, IsInBox}
 use Rattle.node_words.specs.declared.shapes.names.Name.{Name}
 use Rattle.node_words.specs.shapes.Tree.{Tree, shape_of}
-use Rattle.node_words.specs.Held.{Seen}
+use Rattle.node_words.specs.Held.{StoreState}
 use Rattle.node_words.specs.descent.Roots.{IsBlockOf, HasBlock, cells_of}
 use Rattle.node_words.specs.descent.Looks.{IsClearRound}
 use Rattle.node_words.specs.descent.Parts.{EndsBy}
@@ -46,7 +46,7 @@ misses r side k cells before left = record {
 }
 
 -- the same of a block, over what is seen of its store
-pub block_clear_on : (a b : Seen) (level : ℕ) (block : Option Name) (r : Course) (k next : ℕ)
+pub block_clear_on : (a b : StoreState) (level : ℕ) (block : Option Name) (r : Course) (k next : ℕ)
     (c : Cell) (clear : Boxed) → b ≡ a
     → ((t : Tree) → IsBlockOf b.held level block t
     → IsClearRound (block_side level) (cells_of level (shape_of t)) c clear)
@@ -59,7 +59,7 @@ block_clear_on a b level block r k next c clear e told stays before t o =
     clear_on r (block_side level) k next (cells_of level (shape_of t)) c clear (before t o)
     (told t (block_still a b level block t e o)) stays
 
-pub block_first : (a b : Seen) (level : ℕ) (block : Option Name) (r : Course) (k : ℕ) (c : Cell)
+pub block_first : (a b : StoreState) (level : ℕ) (block : Option Name) (r : Course) (k : ℕ) (c : Cell)
     → b ≡ a → IsCourseIn r k c → IsInWorld (block_side level) c
     → ((t : Tree) → IsBlockOf b.held level block t → cells_of level (shape_of t) c ≡ true)
     → ((t : Tree) → IsBlockOf a.held level block t
@@ -80,7 +80,7 @@ small_side : (level : ℕ) → level ≤ 10 → block_side level ≤ 4096
 small_side level h = let bound : 2 ^ level ≤ 2 ^ 10 = pow_mono h in omega (arith, bound)
 
 -- the box around a cell of a block ends in the greatest world
-pub ends_in_block : (a b : Seen) (level : ℕ) (block : Option Name) (c : Cell) (clear : Boxed)
+pub ends_in_block : (a b : StoreState) (level : ℕ) (block : Option Name) (c : Cell) (clear : Boxed)
     → b ≡ a → level ≤ 10 → HasBlock a.held level block
     → ((t : Tree) → IsBlockOf b.held level block t
     → IsClearRound (block_side level) (cells_of level (shape_of t)) c clear)
@@ -99,7 +99,7 @@ ends_in_block a b level block c clear e h has told =
     )
 
 -- the walk misses
-pub block_misses : (a b : Seen) (level side : ℕ) (block : Option Name) (r : Course) (k next : ℕ)
+pub block_misses : (a b : StoreState) (level side : ℕ) (block : Option Name) (r : Course) (k next : ℕ)
     (c : Cell) (clear : Boxed) → b ≡ a → side ≡ block_side level
     → ((t : Tree) → IsBlockOf b.held level block t
     → IsClearRound (block_side level) (cells_of level (shape_of t)) c clear)

@@ -11,7 +11,7 @@ use Rattle.node_words.specs.Gathering.{Loses, LosesAll, MayHold}
 use Rattle.node_words.specs.Held.{AreBelow, AreHeld, Gains, HoldsName, IsHeld, IsUnheldBranch, ReturnsWithin, name_in}
 use Rattle.node_words.proofs.GatherLaws.{may_next}
 use Rattle.node_words.proofs.HeldLaws.{child_level, held_reached, reached_levels}
-use Rattle.node_table.specs.Telling.{ViewTells}
+use Rattle.node_table.specs.ViewFacts.{ViewFacts}
 use Rattle.node_table.specs.Views.{SeatView}
 use Rattle.node_table.proofs.OnlyShares.{only_held, only_itself, only_on}
 use Rattle.node_table.proofs.ReadLaws.{has_no_child}
@@ -164,7 +164,7 @@ children_held v m t children h e are = record {
 
 -- they are of the level below
 pub children_below : (v : SeatView) (t : Tree) (n : Name) (children : List (Option Name))
-    → ViewTells v → IsHeld v.held t → root_of t ≡ Some n → AreChildrenIn children t
+    → ViewFacts v → IsHeld v.held t → root_of t ≡ Some n → AreChildrenIn children t
     → AreBelow n.level children
 children_below v t n children tells h root are =
     record { each = λ k m lt e. go k m lt e n.level refl }
@@ -180,7 +180,7 @@ children_below v t n children tells h root are =
         (sym (are.each k lt) ∙ e) (omega arith)
 
 -- and there is room for them
-pub children_room : (v m : SeatView) (t : Tree) (n : Name) → ViewTells v → IsHeld v.held t
+pub children_room : (v m : SeatView) (t : Tree) (n : Name) → ViewFacts v → IsHeld v.held t
     → root_of t ≡ Some n → FreesUnderTurn v t m → number_of_trees v.held + 8 * n.level ≤ 4089
     → number_of_trees m.held + 8 * (n.level - 1) ≤ 4089
 children_room v m t n tells h root e room = go n.level refl
@@ -244,7 +244,7 @@ gave_within v w t n steps now root b =
     }
 
 -- ten levels of eight children fit
-pub back_room : (v : SeatView) (n : Name) → ViewTells v → v.plan.side ≤ 12 → HoldsName v.held n
+pub back_room : (v : SeatView) (n : Name) → ViewFacts v → v.plan.side ≤ 12 → HoldsName v.held n
     → number_of_trees v.held ≤ 4008 → number_of_trees v.held + 8 * n.level ≤ 4089
 back_room v n tells side h room =
     let s = reached_levels v.plan.side v.held h.tree n tells.trees

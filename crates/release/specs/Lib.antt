@@ -1,2 +1,2 @@
 pub mod Returns
-pub use Rattle.node_table.specs.Seen
+pub use Rattle.node_table.specs.TableStates

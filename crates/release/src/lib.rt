@@ -22,7 +22,7 @@ ghost use Rattle.node_words.specs.Held.{
   ReturnsWithin,
 };
 ghost use Rattle.node_table.specs.Acts.{OnlySharesChange};
-ghost use Rattle.node_table.specs.Seen.{BelongsTo};
+ghost use Rattle.node_table.specs.TableStates.{BelongsTo};
 ghost use Rattle.release.specs.Returns.{GaveBack, GaveRowBack};
 
 use node_table::Lowering;

@@ -13,7 +13,7 @@ use Rattle.node_words.specs.Plans.{Layout}
 use Rattle.history_model.specs.Contents.{Content}
 use Rattle.vw_cell.specs.declared.blocks.Block.{Block}
 use Rattle.core_laws.specs.contents.Aligned.{top, world_block}
-use Rattle.core_laws.specs.contents.Versions.{IsKept}
+use Rattle.core_laws.specs.contents.Versions.{HoldsVersion}
 use Rattle.core_laws.specs.States.{State}
 use Rattle.core_laws.specs.Soundness.{Sound}
 use Rattle.history_model.specs.Stores.{stored_in}
@@ -123,7 +123,7 @@ numbers_told p models state numbers low s idle as_many told =
           let here : level ≤ top p.side = subst (λ (n : ℕ). level ≤ top n) side le in
           subst (λ (n : ℕ). HasNumber models state.log level n) (sym (told level here))
           (subst (λ (n : ℕ). HasContents (world_block n)
-          (λ v. stored_in (2 ^ n) models state.log.records v) (IsKept state.log) level
+          (λ v. stored_in (2 ^ n) models state.log.records v) (HoldsVersion state.log) level
           (live_number p state level)) (sym side)
           (live_contents p models state level low s idle (omega arith)));
     }

@@ -9,9 +9,9 @@ use Rattle.history_model.specs.Contents.{Content}
 use Rattle.history_model.specs.Logs.{Log}
 use Rattle.history_model.specs.Stores.{store_has}
 use Rattle.core_laws.specs.contents.Aligned.{world_block}
-use Rattle.core_laws.specs.contents.Versions.{IsKept}
+use Rattle.core_laws.specs.contents.Versions.{HoldsVersion}
 use Rattle.report.specs.declared.rows.ReportRow.{ReportRow}
-use Rattle.report.specs.Reports.{FirstFits, AreKeptRows, IsReport, report_of}
+use Rattle.report.specs.Reports.{FirstFits, AreHeldRows, IsReport, report_of}
 use Rattle.report.proofs.NumberLaws.{one_number}
 
 -- rising numbers
@@ -115,15 +115,15 @@ rises rows rising i j d low high =
     rising i j none low (omega arith) in
     omega arith
 
-held_kept : (log : Log) (rows : List ReportRow) (z : ℕ) → AreKeptRows log rows
-    → Contains (map (λ r. r.version) rows) z → IsKept log z
+held_kept : (log : Log) (rows : List ReportRow) (z : ℕ) → AreHeldRows log rows
+    → Contains (map (λ r. r.version) rows) z → HoldsVersion log z
 held_kept log rows z held (k, lt, e) =
     let len : length (map (λ (r : ReportRow). r.version) rows) ≡ length rows =
     length-map rows (λ (r : ReportRow). r.version) in
     let none : ReportRow = record { version = 0; first = None } in
     let a : get_or (map (λ (r : ReportRow). r.version) rows) k z ≡ (get_or rows k none).version =
     get_or-map (λ (r : ReportRow). r.version) rows k none z (omega arith) in
-    subst (λ (v : ℕ). IsKept log v) (sym a ∙ e) (held.kept k none (omega arith))
+    subst (λ (v : ℕ). HoldsVersion log v) (sym a ∙ e) (held.kept k none (omega arith))
 
 pub one_report : (models : List Content) (log : Log) (a b : List ℕ) → IsReport models log a
     → IsReport models log b → a ≡ b
@@ -139,6 +139,6 @@ one_report models log a b f g =
     let numbers : f.numbers ≡ g.numbers =
     ext_get_or 0 f.numbers g.numbers (f.are.as_many ∙ sym g.are.as_many)
     (λ i lt. one_number (world_block log.side) (λ v. store_has models log v)
-    (IsKept log) i _ _ (f.are.each i (omega arith)) (g.are.each i (omega arith))) in
+    (HoldsVersion log) i _ _ (f.are.each i (omega arith)) (g.are.each i (omega arith))) in
     f.is ∙ ap (λ (rs : List ReportRow). report_of log rs f.numbers) rows
     ∙ ap (λ (ns : List ℕ). report_of log g.rows ns) numbers ∙ sym g.is

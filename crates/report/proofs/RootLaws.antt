@@ -8,13 +8,13 @@ use Rattle.history_model.specs.Logs.{Log, IsLegal}
 use Rattle.history_model.specs.Stores.{stored_in}
 use Rattle.node_words.specs.declared.shapes.names.Name.{Name}
 use Rattle.node_words.specs.Plans.{Layout}
-use Rattle.core_laws.specs.contents.Versions.{IsKept, SameWorld}
+use Rattle.core_laws.specs.contents.Versions.{HoldsVersion, SameWorld}
 use Rattle.core_laws.specs.States.{State}
 use Rattle.core_laws.specs.Soundness.{Sound}
 use Rattle.core_laws.proofs.RootCells.{same_cells, same_root, no_root_no_cell, no_cell_no_root}
 use Rattle.report.specs.declared.rows.ReportRow.{ReportRow}
 use Rattle.report.specs.Reports.{HasNoCell, FirstFits, IsReport, head_lines, row_line, level_lines, report_of}
-use Rattle.report.specs.Roots.{RootsTellWorlds, FirstTold, RowsBelow}
+use Rattle.report.specs.Roots.{RootsNameWorlds, FirstTold, RowsBelow}
 use Rattle.report.specs.Numbers.{AreNumbers}
 
 -- the side of a legal log is that of its world
@@ -39,7 +39,7 @@ module _ (p : Layout) (models : List Content) (state : State) (low : 2 ≤ p.sid
   at_plan : (P : ℕ → Type 0) → P (2 ^ state.log.side) → P (2 ^ p.side)
   at_plan P there = subst P s.versions.legal.same_side there
 
-  pub roots_told : RootsTellWorlds models state.log state.root
+  pub roots_told : RootsNameWorlds models state.log state.root
   roots_told = record {
     no_cell = λ v kept none. at_log (λ n. HasNoCell n (stored_in n models state.log.records v))
         (record { each = no_root_no_cell p models state low s v kept none });
@@ -55,12 +55,12 @@ module _ (p : Layout) (models : List Content) (state : State) (low : 2 ≤ p.sid
   }
 
 pub sound_roots : (p : Layout) (models : List Content) (state : State) → 2 ≤ p.side
-    → Sound p models state → RootsTellWorlds models state.log state.root
+    → Sound p models state → RootsNameWorlds models state.log state.root
 sound_roots p models state low s = roots_told p models state low s
 
 -- what is told of a version by its root is what the report says of it
 pub told_fits : (models : List Content) (log : Log) (root : ℕ → Option Name)
-    → RootsTellWorlds models log root → (v : ℕ) (first : Option ℕ) → IsKept log v
+    → RootsNameWorlds models log root → (v : ℕ) (first : Option ℕ) → HoldsVersion log v
     → FirstTold log root v first → FirstFits models log v first
 told_fits models log root tell v None kept told = tell.no_cell v kept told
 told_fits models log root tell v (Some w) kept told = (
@@ -76,7 +76,7 @@ told_fits models log root tell v (Some w) kept told = (
 pub report_told : (models : List Content) (log : Log) (root : ℕ → Option Name)
     (rows : List ReportRow) (numbers text : List ℕ)
     → RowsBelow log root (length log.records + 1) rows → text ≡ report_of log rows numbers
-    → RootsTellWorlds models log root → AreNumbers models log numbers → IsReport models log text
+    → RootsNameWorlds models log root → AreNumbers models log numbers → IsReport models log text
 report_told models log root rows numbers text below is tell are = record {
   rows = rows;
   held = record {

@@ -7,7 +7,7 @@ use Rattle.std.proofs.lemmas.List.Quantifiers.{all_pairs_push}
 use Rattle.std.proofs.lemmas.List.Elements.{All-nil, All-push, All-weaker, Contains-append_left, Contains-append_right}
 use Rattle.history_model.specs.Logs.{Log}
 use Rattle.node_words.specs.declared.shapes.names.Name.{Name}
-use Rattle.core_laws.specs.contents.Versions.{IsKept}
+use Rattle.core_laws.specs.contents.Versions.{HoldsVersion}
 use Rattle.report.specs.declared.rows.ReportRow.{ReportRow}
 use Rattle.report.specs.Roots.{FirstTold, RowsBelow, root_number, IsFirstAt, FirstsBelow}
 
@@ -40,7 +40,7 @@ module _ (log : Log) (root : ℕ → Option Name) (v : ℕ) where
         told = All-nil _;
       }
 
-  pub rows_skip : (rows : List ReportRow) → ¬ IsKept log v → RowsBelow log root v rows
+  pub rows_skip : (rows : List ReportRow) → ¬ HoldsVersion log v → RowsBelow log root v rows
       → RowsBelow log root (v + 1) rows
   rows_skip rows marked r = record {
     rising = r.rising;
@@ -49,12 +49,12 @@ module _ (log : Log) (root : ℕ → Option Name) (v : ℕ) where
     kept = r.kept;
     all = λ u less kept. elim (cases_lt u v) [
       | inl lower ↦ r.all u lower kept
-      | inr high ↦ absurd (marked (subst (λ (n : ℕ). IsKept log n) (omega arith) kept))
+      | inr high ↦ absurd (marked (subst (λ (n : ℕ). HoldsVersion log n) (omega arith) kept))
     ];
     told = r.told;
   }
 
-  pub rows_more : (rows : List ReportRow) (first : Option ℕ) → IsKept log v
+  pub rows_more : (rows : List ReportRow) (first : Option ℕ) → HoldsVersion log v
       → FirstTold log root v first → RowsBelow log root v rows
       → RowsBelow log root (v + 1) (rows ++ record { version = v; first = first } ∷ [])
   rows_more rows first kept told r =
@@ -64,7 +64,7 @@ module _ (log : Log) (root : ℕ → Option Name) (v : ℕ) where
         below = All-push (λ s. s.version < v + 1) rows row
             (All-weaker (λ s. s.version < v) (λ s. s.version < v + 1)
             (λ s less. omega arith) rows r.below) (omega arith);
-        kept = All-push (λ s. IsKept log s.version) rows row r.kept kept;
+        kept = All-push (λ s. HoldsVersion log s.version) rows row r.kept kept;
         all = λ u less of_u. subst (λ (ns : List ℕ). Contains ns u) (sym (versions_push rows row))
             (elim (cases_lt u v) [
               | inl lower ↦ Contains-append_left (map (λ s. s.version) rows) (v ∷ []) u
@@ -101,7 +101,7 @@ module _ (log : Log) (root : ℕ → Option Name) (v : ℕ) where
         least = f.least;
       }
 
-  pub firsts_skip : (firsts : ℕ → Option ℕ) → (IsKept log v → root v ≡ None)
+  pub firsts_skip : (firsts : ℕ → Option ℕ) → (HoldsVersion log v → root v ≡ None)
       → FirstsBelow log root v firsts → FirstsBelow log root (v + 1) firsts
   firsts_skip firsts none f = record {
     first = λ k w is. later_first k w (f.first k w is);
@@ -109,14 +109,14 @@ module _ (log : Log) (root : ℕ → Option Name) (v : ℕ) where
       | inl lower ↦ f.there u n lower kept is
       | inr high ↦ absurd (
           let at : u ≡ v = omega arith in
-          let here : root v ≡ None = none (subst (λ (m : ℕ). IsKept log m) at kept) in
+          let here : root v ≡ None = none (subst (λ (m : ℕ). HoldsVersion log m) at kept) in
           let e : Some n ≡ None = sym is ∙ ap root at ∙ here in
           let no : ⊥ = cc in no)
     ];
   }
 
   module _ (n : Name) (bucket : n.bucket < 65536) (slot : n.slot < 256) (is : root v ≡ Some n)
-      (kept : IsKept log v) (old : ℕ → Option ℕ) (f : FirstsBelow log root v old) where
+      (kept : HoldsVersion log v) (old : ℕ → Option ℕ) (f : FirstsBelow log root v old) where
     -- the first version with the root of this one
     pub first_told : (listed : Option ℕ) → listed ≡ old (root_number n)
         → FirstTold log root v (Some (unwrap_or listed v))
@@ -168,7 +168,7 @@ module _ (log : Log) (root : ℕ → Option Name) (v : ℕ) where
             (here_first (old (root_number n)) refl))
         of_first k w false e found = later_first k w (f.first k w found)
 
-        of_there : (u : ℕ) (m : Name) → u < v + 1 → IsKept log u → root u ≡ Some m → (b : Bool)
+        of_there : (u : ℕ) (m : Name) → u < v + 1 → HoldsVersion log u → root u ≡ Some m → (b : Bool)
             → (root_number m == root_number n) ≡ b
             → (if b then Some (unwrap_or (old (root_number n)) v) else old (root_number m)) ≡ None
             → ⊥
@@ -187,20 +187,20 @@ module _ (log : Log) (root : ℕ → Option Name) (v : ℕ) where
 
 module _ (log : Log) (root : ℕ → Option Name) (v : ℕ) (is_kept : Bool) (rows : List ReportRow)
     (old : ℕ → Option ℕ) (r : RowsBelow log root v rows) (f : FirstsBelow log root v old) where
-  pub marked_row : is_kept ≡ false → (is_kept ≡ false → ¬ IsKept log v)
+  pub marked_row : is_kept ≡ false → (is_kept ≡ false → ¬ HoldsVersion log v)
       → RowsBelow log root (v + 1) rows × FirstsBelow log root (v + 1) old
   marked_row off marked =
-      let gone : ¬ IsKept log v = marked off in
+      let gone : ¬ HoldsVersion log v = marked off in
       (rows_skip log root v rows gone r, firsts_skip log root v old (λ kept. absurd (gone kept)) f)
 
-  more_rows : (more : List ReportRow) (first : Option ℕ) → IsKept log v → FirstTold log root v first
+  more_rows : (more : List ReportRow) (first : Option ℕ) → HoldsVersion log v → FirstTold log root v first
       → more ≡ rows ++ record { version = v; first = first } ∷ [] → RowsBelow log root (v + 1) more
   more_rows more first kept told pushed = subst
       (λ (rs : List ReportRow). RowsBelow log root (v + 1) rs) (sym pushed)
       (rows_more log root v rows first kept told r)
 
   pub empty_row : (more : List ReportRow) (new : ℕ → Option ℕ) (first : Option ℕ) → is_kept ≡ true
-      → (is_kept ≡ true → IsKept log v) → root v ≡ None → first ≡ None → new ≡ old
+      → (is_kept ≡ true → HoldsVersion log v) → root v ≡ None → first ≡ None → new ≡ old
       → more ≡ rows ++ record { version = v; first = first } ∷ []
       → RowsBelow log root (v + 1) more × FirstsBelow log root (v + 1) new
   empty_row more new first on of_kept none is same pushed = (
@@ -211,14 +211,14 @@ module _ (log : Log) (root : ℕ → Option Name) (v : ℕ) (is_kept : Bool) (ro
   )
 
   pub rooted_row : (more : List ReportRow) (new : ℕ → Option ℕ) (first : Option ℕ) (n : Name)
-      (found : ℕ) → is_kept ≡ true → (is_kept ≡ true → IsKept log v) → root v ≡ Some n
+      (found : ℕ) → is_kept ≡ true → (is_kept ≡ true → HoldsVersion log v) → root v ≡ Some n
       → n.bucket < 65536 → n.slot < 256 → first ≡ Some found
       → found ≡ unwrap_or (old (root_number n)) v
       → ((k : ℕ) → new k ≡ (if k == root_number n then Some found else old k))
       → more ≡ rows ++ record { version = v; first = first } ∷ []
       → RowsBelow log root (v + 1) more × FirstsBelow log root (v + 1) new
   rooted_row more new first n found on of_kept is bucket slot listed which each pushed =
-      let kept : IsKept log v = of_kept on in
+      let kept : HoldsVersion log v = of_kept on in
       let told : FirstTold log root v (Some (unwrap_or (old (root_number n)) v)) =
       first_told log root v n bucket slot is kept old f (old (root_number n)) refl in (
         more_rows more first kept

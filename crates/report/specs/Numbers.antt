@@ -6,12 +6,12 @@ use Rattle.history_model.specs.Logs.{Log}
 use Rattle.history_model.specs.Stores.{store_has}
 use Rattle.core_laws.specs.contents.Aligned.{top, world_block}
 use Rattle.core_laws.specs.contents.Contents.{HasContents}
-use Rattle.core_laws.specs.contents.Versions.{IsKept}
+use Rattle.core_laws.specs.contents.Versions.{HoldsVersion}
 
 -- the kept versions' aligned blocks of this level have so many different contents with a set cell
 abbrev pub HasNumber : List Content → Log → ℕ → ℕ → Type 0
 HasNumber models log level number =
-    HasContents (world_block log.side) (λ v. store_has models log v) (IsKept log) level
+    HasContents (world_block log.side) (λ v. store_has models log v) (HoldsVersion log) level
     number
 
 -- one number for each level, from level 0 to that of the whole world

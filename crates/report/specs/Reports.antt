@@ -9,7 +9,7 @@ use Rattle.history_model.specs.Contents.{Content}
 use Rattle.history_model.specs.Worlds.{World}
 use Rattle.history_model.specs.Logs.{Log}
 use Rattle.history_model.specs.Stores.{store_has}
-use Rattle.core_laws.specs.contents.Versions.{IsKept, SameWorld}
+use Rattle.core_laws.specs.contents.Versions.{HoldsVersion, SameWorld}
 use Rattle.report.specs.declared.rows.ReportRow.{ReportRow}
 use Rattle.report.specs.Numbers.{AreNumbers}
 
@@ -19,11 +19,11 @@ pub record HasNoCell (side : ℕ) (w : World) : Type 0 where
 
 -- w is the least kept version with the cells of v
 pub record IsFirstLike (models : List Content) (log : Log) (v w : ℕ) : Type 0 where
-  pub kept : IsKept log w
+  pub kept : HoldsVersion log w
   pub low : w ≤ v
   pub same : SameWorld (2 ^ log.side) (store_has models log w)
       (store_has models log v)
-  pub least : (u : ℕ) → u < w → IsKept log u
+  pub least : (u : ℕ) → u < w → HoldsVersion log u
       → ¬ SameWorld (2 ^ log.side) (store_has models log u)
       (store_has models log v)
 
@@ -34,10 +34,10 @@ FirstFits models log v (Some w) =
     (¬ HasNoCell (2 ^ log.side) (store_has models log v)) × IsFirstLike models log v w
 
 -- the rows are those of the kept versions, one for each, by rising version
-pub record AreKeptRows (log : Log) (rows : List ReportRow) : Type 0 where
+pub record AreHeldRows (log : Log) (rows : List ReportRow) : Type 0 where
   pub rising : AllPairs (λ a b. a.version < b.version) rows
-  pub kept : All (λ r. IsKept log r.version) rows
-  pub all : (v : ℕ) → IsKept log v → Contains (map (λ r. r.version) rows) v
+  pub kept : All (λ r. HoldsVersion log r.version) rows
+  pub all : (v : ℕ) → HoldsVersion log v → Contains (map (λ r. r.version) rows) v
 
 -- ---- the text
 
@@ -74,7 +74,7 @@ report_of log rows numbers = head_lines log ++ (flat_map row_line rows ++ level_
 -- the text is the report of the history
 pub record IsReport (models : List Content) (log : Log) (text : List ℕ) : Type 0 where
   pub rows : List ReportRow
-  pub held : AreKeptRows log rows
+  pub held : AreHeldRows log rows
   pub fit : All (λ r. FirstFits models log r.version r.first) rows
   pub numbers : List ℕ
   pub are : AreNumbers models log numbers

@@ -9,12 +9,12 @@ use Rattle.core_laws.specs.Soundness.{Sound}
 use Rattle.core_laws.specs.Blocks.{IsIdle, live_number}
 use Rattle.report.specs.Numbers.{HasNumber, AreNumbers}
 use Rattle.report.specs.Reports.{IsReport}
-use Rattle.report.specs.Roots.{RootsTellWorlds}
+use Rattle.report.specs.Roots.{RootsNameWorlds}
 
 -- two kept versions of a sound state have one root just where they have the same cells
 abbrev pub SoundRootsTellWorlds : Type 0
 SoundRootsTellWorlds = (p : Layout) (models : List Content) (state : State) → 2 ≤ p.side
-    → Sound p models state → RootsTellWorlds models state.log state.root
+    → Sound p models state → RootsNameWorlds models state.log state.root
 
 -- where nobody holds a share, the live entries of each level are that level's number
 abbrev pub LiveEntriesAreNumbers : Type 0

@@ -1,3 +1,4 @@
+//! The report of a run: its rows, and the text of them.
 #![tactic(auto)]
 
 mod laws;

@@ -3,7 +3,7 @@ ghost use Rattle.std.specs.Ordering.{nat_cmp};
 ghost use Rattle.std.specs.BTreeMap.{get};
 ghost use Rattle.history_model.specs.Logs.{Log};
 ghost use Rattle.node_words.specs.declared.shapes.names.Name.{Name};
-ghost use Rattle.core_laws.specs.contents.Versions.{IsKept};
+ghost use Rattle.core_laws.specs.contents.Versions.{HoldsVersion};
 ghost use Rattle.report.specs.Roots.{ShowsUnmarked, RowsBelow, FirstsBelow, listed_root, root_number};
 
 use history_model::History;
@@ -71,7 +71,8 @@ fn add_row(
 ) -> Result<(), Memory>
     ensures { IfOk result (λ _. (log : Log) (root_of : ℕ → Option Name)
         → root ≡ root_of version
-        → (is_kept ≡ true → IsKept log version) → (is_kept ≡ false → ¬ IsKept log version)
+        → (is_kept ≡ true → HoldsVersion log version)
+        → (is_kept ≡ false → ¬ HoldsVersion log version)
         → RowsBelow log root_of version rows.old.items
         → FirstsBelow log root_of version (get nat_cmp firsts.old)
         → RowsBelow log root_of (version + 1) rows.new.items

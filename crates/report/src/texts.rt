@@ -3,7 +3,7 @@ ghost use Rattle.std.specs.List.{flat_map};
 ghost use Rattle.history_model.specs.Contents.{Content};
 ghost use Rattle.report.specs.Numbers.{AreNumbers};
 ghost use Rattle.report.specs.Reports.{IsReport, head_lines, row_line, level_line, level_lines};
-ghost use Rattle.report.specs.Roots.{RootsTellWorlds, listed_root};
+ghost use Rattle.report.specs.Roots.{RootsNameWorlds, listed_root};
 
 use crate::rows::{ReportRow, rows};
 use history_model::History;
@@ -26,7 +26,7 @@ pub fn report_text(
     requires marks { All (λ m. m.version ≤ length history.now.records) history.now.marks }
     requires roots { length history.now.records < length roots.now }
     ensures { IfOk result (λ text. (models : List Content)
-        → RootsTellWorlds models history.now (listed_root roots.now)
+        → RootsNameWorlds models history.now (listed_root roots.now)
         → AreNumbers models history.now numbers.now
         → IsReport models history.now text.items) }
 {

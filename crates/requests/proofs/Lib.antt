@@ -1,1 +1,2 @@
 pub mod OfCommandLine
+pub mod OfWords

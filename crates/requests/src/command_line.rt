@@ -1,7 +1,8 @@
 //! The words of a command line as what they are: options with their values, and operands.
 //!
 //! It knows the words of a run and no file. A run's words, part after part, are in
-//! `specs/command_line/Parts.antt`; the kit's `clap` splits them by the command in `specs/command_line/Command.antt`.
+//! `specs/command_line/Parts.antt`; the kit's `clap` splits them by the command in
+//! `specs/command_line/Command.antt`.
 
 mod lines;
 mod parts;

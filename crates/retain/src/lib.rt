@@ -1,3 +1,5 @@
+//! Which versions a run keeps where it keeps the last ones alone: what falls out of a window, which
+//! marks stand at each time, and how a version that is no longer kept is refused.
 #![tactic(auto)]
 
 mod comparing;

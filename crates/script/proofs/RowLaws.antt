@@ -7,7 +7,7 @@ use Rattle.plain_text.specs.declared.faults.WordFault.{WordFault}
 use Rattle.plain_text.specs.declared.faults.WordFault.TheVariants.{Word}
 use Rattle.plain_text.specs.Steps.{Gives}
 use Rattle.script.specs.declared.commands.Command.{Command}
-use Rattle.script.specs.declared.said.Said.{Said}
+use Rattle.script.specs.declared.said.SpelledCommand.{SpelledCommand}
 use Rattle.script.specs.Commands.{CommandRow, change_row, tried_rows, change_names, all_change_names, question_rows, other_rows, command_read_by, save_spelled, command_spelled, is_among, is_row}
 use Rattle.script.specs.Said.{command_said}
 
@@ -97,13 +97,13 @@ abbrev others : Bool → List ℕ → List (List ℕ) → Result Command WordFau
 others tint name words = command_read_by (other_rows tint) (Err Word) name words
 
 -- what was said, where two readings are one
-said_so : (tint : Bool) (read : Result Said WordFault) (one two : Result Command WordFault)
+said_so : (tint : Bool) (read : Result SpelledCommand WordFault) (one two : Result Command WordFault)
     → one ≡ two → Gives (command_said tint) read one → Gives (command_said tint) read two
 said_so tint read one two same gives =
     subst (λ (r : Result Command WordFault). Gives (command_said tint) read r) same gives
 
 pub change_found : (tint : Bool) (name : List ℕ) (words : List (List ℕ))
-    (read : Result Said WordFault) → is_among all_change_names name ≡ true
+    (read : Result SpelledCommand WordFault) → is_among all_change_names name ≡ true
     → Gives (command_said tint) read ((change_row tint false name).read words)
     → Gives (command_said tint) read (command_spelled tint name words)
 change_found tint name words read is gives =
@@ -112,7 +112,7 @@ change_found tint name words read is gives =
     (Err Word) name words is)) gives
 
 pub question_found : (tint : Bool) (name : List ℕ) (words : List (List ℕ))
-    (read : Result Said WordFault) → is_among all_change_names name ≡ false
+    (read : Result SpelledCommand WordFault) → is_among all_change_names name ≡ false
     → is_row (question_rows tint) name ≡ true
     → Gives (command_said tint) read (command_read_by (question_rows tint) (Err Word) name words)
     → Gives (command_said tint) read (command_spelled tint name words)
@@ -123,7 +123,7 @@ question_found tint name words read change is gives =
     ∙ rows_found (question_rows tint) (other_rows tint) (Err Word) name words is)) gives
 
 pub other_found : (tint : Bool) (name : List ℕ) (words : List (List ℕ))
-    (read : Result Said WordFault) → is_among all_change_names name ≡ false
+    (read : Result SpelledCommand WordFault) → is_among all_change_names name ≡ false
     → is_row (question_rows tint) name ≡ false
     → Gives (command_said tint) read (command_read_by (other_rows tint) (Err Word) name words)
     → Gives (command_said tint) read (command_spelled tint name words)
@@ -136,7 +136,7 @@ other_found tint name words read change question gives =
 -- ---- behind `try`
 
 pub tried_found : (tint : Bool) (name : List ℕ) (words : List (List ℕ))
-    (read : Result Said WordFault) → is_among change_names name ≡ true
+    (read : Result SpelledCommand WordFault) → is_among change_names name ≡ true
     → Gives (command_said tint) read ((change_row tint true name).read words)
     → Gives (command_said tint) read (command_read_by (tried_rows tint) (Err Word) name words)
 unfolding tried_rows

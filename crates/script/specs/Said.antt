@@ -2,7 +2,7 @@
 use Rattle.std.specs.Prelude.{ℤ, Bool, None}
 use Rattle.history_model.specs.Worlds.{box_at}
 use Rattle.history_model.specs.Ways.{heading_of, Heading}
-use Rattle.history_model.specs.Spelled.{act_told}
+use Rattle.history_model.specs.Spelled.{spelled_act}
 use Rattle.history_model.specs.declared.questions.Question.{Question}
 use Rattle.history_model.specs.declared.questions.Question.TheVariants as questions
 use Rattle.script.specs.Numbers.{signed}
@@ -10,19 +10,19 @@ use Rattle.script.specs.declared.commands.Command.{Command}
 use Rattle.script.specs.declared.commands.Command.TheVariants as commands
 use Rattle.script.specs.declared.commands.SaveName.{SaveName}
 use Rattle.script.specs.declared.said.NameWord.{NameWord}
-use Rattle.script.specs.declared.said.Query.{Query}
-use Rattle.script.specs.declared.said.Query.TheVariants as queries
+use Rattle.script.specs.declared.said.SpelledAsk.{SpelledAsk}
+use Rattle.script.specs.declared.said.SpelledAsk.TheVariants as queries
 use Rattle.script.specs.declared.said.Asked.{Asked}
 use Rattle.script.specs.declared.said.Asked.TheVariants.{Get, Colour, Count, Bounds, Faces, Ray}
-use Rattle.script.specs.declared.said.Said.{Said}
-use Rattle.script.specs.declared.said.Said.TheVariants.{Edit, Forget, Ask, Save, Same, Head}
-use Rattle.script.specs.declared.said.Step.{Step}
-use Rattle.script.specs.declared.said.Steps.{Steps}
+use Rattle.script.specs.declared.said.SpelledCommand.{SpelledCommand}
+use Rattle.script.specs.declared.said.SpelledCommand.TheVariants.{Edit, Forget, Ask, Save, Same, Head}
+use Rattle.script.specs.declared.said.SignedSize.{SignedSize}
+use Rattle.script.specs.declared.said.SpelledSteps.{SpelledSteps}
 
-abbrev pub step_said : Step → ℤ
+abbrev pub step_said : SignedSize → ℤ
 step_said s = signed s.low s.size
 
-abbrev pub way_said : Steps → Heading
+abbrev pub way_said : SpelledSteps → Heading
 way_said s = heading_of (step_said s.x) (step_said s.y) (step_said s.z)
 
 abbrev pub question_said : Asked → Question
@@ -41,13 +41,13 @@ abbrev pub name_said : NameWord → SaveName
 name_said word = record { bytes = word.bytes; len = word.len }
 
 -- what is asked of the newest version
-abbrev pub query_command : Query → Command
+abbrev pub query_command : SpelledAsk → Command
 query_command (queries.Question asked) = asked_command asked
 query_command (queries.Save name at size) = commands.Save None (name_said name) (box_at at size)
 
 -- what was said in a world with tints or without
-abbrev pub command_said : Bool → Said → Command
-command_said tint (Edit act once) = commands.Edit (act_told tint act) once
+abbrev pub command_said : Bool → SpelledCommand → Command
+command_said tint (Edit act once) = commands.Edit (spelled_act tint act) once
 command_said tint (Forget v) = commands.Forget v
 command_said tint (Ask version question) = commands.Ask version (question_said question)
 command_said tint (Save version name at size) =

@@ -1,7 +1,7 @@
 ghost use Rattle.std.specs.Prelude.{◌≡◌, ◌^◌, ◌<◌, true, false, IfOk, OnOk, MatchOption, MatchResult};
 ghost use Rattle.std.specs.List.{list_all, slice_get};
 ghost use Rattle.history_model.specs.Contents.{AreModels};
-ghost use Rattle.history_model.specs.Spelled.{act_of, act_told};
+ghost use Rattle.history_model.specs.Spelled.{act_of, spelled_act};
 ghost use Rattle.history_model.specs.Worlds.{box_at};
 ghost use Rattle.script.specs.declared.faults.ScriptKind.TheVariants.{Range};
 ghost use Rattle.script.specs.Numbers.{IsLong, box_in, cell_in, ball_in, way_in, is_digit};
@@ -11,14 +11,14 @@ ghost use Rattle.history_model.specs.Spelling.{IsLarge};
 
 use crate::commands::{Command, SaveName};
 use crate::faults::ScriptKind;
-use crate::said::{Asked, NameWord, Said, Step, Steps};
+use crate::said::{Asked, NameWord, SignedSize, SpelledCommand, SpelledSteps};
 use history_model::{Act, Models, Question, Spelled, SpelledTint, Three, TintAct, Way};
 use vw_cell::{Ball, Boxed, Cell, Side};
 
 /// The command that was spelled in a world with tints or without, where what it names is there.
 pub(crate) fn place_command(
     tint: bool,
-    said: &Said,
+    said: &SpelledCommand,
     side: Side,
     models: &Models,
 ) -> Result<Command, ScriptKind>
@@ -26,18 +26,18 @@ pub(crate) fn place_command(
     ensures { result ≡ command_placed tint (2 ^ side) models.now (command_said tint said.now) }
 {
     match *said {
-        Said::Edit(act, once) => {
+        SpelledCommand::Edit(act, once) => {
             let act = place_act(tint, &act, side, models)?;
             Ok(Command::Edit { act, once })
         }
-        Said::Forget(v) => Ok(Command::Forget(v)),
-        Said::Ask(version, asked) => {
+        SpelledCommand::Forget(v) => Ok(Command::Forget(v)),
+        SpelledCommand::Ask(version, asked) => {
             let question = place_question(&asked, side)?;
             Ok(Command::Ask { version, question })
         }
-        Said::Save(version, name, at, size) => place_save(version, &name, at, size, side),
-        Said::Same(v, w) => Ok(Command::Same(v, w)),
-        Said::Head => Ok(Command::Head),
+        SpelledCommand::Save(version, name, at, size) => place_save(version, &name, at, size, side),
+        SpelledCommand::Same(v, w) => Ok(Command::Same(v, w)),
+        SpelledCommand::Head => Ok(Command::Head),
     }
 }
 
@@ -119,7 +119,7 @@ fn is_name_byte(b: u8) -> bool
 
 fn place_act(tint: bool, told: &SpelledTint, side: Side, models: &Models) -> Result<Act, ScriptKind>
     requires { AreModels models.now }
-    ensures { result ≡ act_placed tint (2 ^ side) models.now (act_told tint told.now) }
+    ensures { result ≡ act_placed tint (2 ^ side) models.now (spelled_act tint told.now) }
 {
     if tint {
         return place_tinted(told, side, models);
@@ -129,7 +129,7 @@ fn place_act(tint: bool, told: &SpelledTint, side: Side, models: &Models) -> Res
 
 fn place_tinted(told: &SpelledTint, side: Side, models: &Models) -> Result<Act, ScriptKind>
     requires { AreModels models.now }
-    ensures { result ≡ tint_act_placed (2 ^ side) models.now (act_told true told.now) }
+    ensures { result ≡ tint_act_placed (2 ^ side) models.now (spelled_act true told.now) }
 {
     let SpelledTint { act, tint } = *told;
     match act {
@@ -250,7 +250,7 @@ fn place_question(asked: &Asked, side: Side) -> Result<Question, ScriptKind>
 }
 
 #[tactic(auto, unfolding(crate::specs::Placing::ray_placed))]
-fn place_ray(from: Three, steps: &Steps, side: Side) -> Result<Question, ScriptKind>
+fn place_ray(from: Three, steps: &SpelledSteps, side: Side) -> Result<Question, ScriptKind>
     ensures { result ≡ ray_placed (2 ^ side) from (way_said steps.now) }
 {
     let from = make_cell(from, side)?;
@@ -314,7 +314,7 @@ fn make_ball(centre: Three, radius: u32, side: Side) -> Result<Ball, ScriptKind>
 }
 
 #[tactic(auto, using(crate::proofs::Fitting::long_dx, crate::proofs::Fitting::long_dy, crate::proofs::Fitting::long_dz, crate::proofs::Fitting::way_made))]
-fn make_way(steps: &Steps) -> Result<Way, ScriptKind>
+fn make_way(steps: &SpelledSteps) -> Result<Way, ScriptKind>
     ensures { result ≡ way_in (way_said steps.now) }
 {
     let dx = make_step(&steps.x)?;
@@ -324,7 +324,7 @@ fn make_way(steps: &Steps) -> Result<Way, ScriptKind>
 }
 
 // The step, where it is none too long.
-fn make_step(step: &Step) -> Result<i16, ScriptKind>
+fn make_step(step: &SignedSize) -> Result<i16, ScriptKind>
     ensures { MatchResult result
         (λ d. d ≡ step_said step.now)
         (λ kind. (kind ≡ Range) × IsLong (step_said step.now)) }

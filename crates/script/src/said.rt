@@ -2,17 +2,17 @@ use history_model::{SpelledTint, Three};
 
 /// A step as it is spelled: its size, to lower places where `low` is set.
 #[derive(Clone, Copy)]
-pub(crate) struct Step {
+pub(crate) struct SignedSize {
     pub(crate) low: bool,
     pub(crate) size: u32,
 }
 
 /// The steps of a ray as they are spelled.
 #[derive(Clone, Copy)]
-pub(crate) struct Steps {
-    pub(crate) x: Step,
-    pub(crate) y: Step,
-    pub(crate) z: Step,
+pub(crate) struct SpelledSteps {
+    pub(crate) x: SignedSize,
+    pub(crate) y: SignedSize,
+    pub(crate) z: SignedSize,
 }
 
 /// A question as its words spell it, with numbers that no world may have.
@@ -23,7 +23,7 @@ pub(crate) enum Asked {
     Count(Three, Three),
     Bounds,
     Faces(Three, Three),
-    Ray(Three, Steps),
+    Ray(Three, SpelledSteps),
 }
 
 /// The name of a file as it is spelled: its first bytes, 0 behind them, and how many it has.
@@ -35,14 +35,14 @@ pub(crate) struct NameWord {
 
 /// What is asked of a version: a question, or a box under a name.
 #[derive(Clone, Copy)]
-pub(crate) enum Query {
+pub(crate) enum SpelledAsk {
     Question(Asked),
     Save(NameWord, Three, Three),
 }
 
 /// The same of a command.
 #[derive(Clone, Copy)]
-pub(crate) enum Said {
+pub(crate) enum SpelledCommand {
     Edit(SpelledTint, bool),
     Forget(u32),
     Ask(Option<u32>, Asked),

@@ -5,12 +5,12 @@ ghost use Rattle.history_model.specs.declared.questions.Question.TheVariants.{Bo
 ghost use Rattle.plain_text.specs.declared.faults.WordFault.TheVariants.{Word};
 ghost use Rattle.plain_text.specs.Steps.{Gives};
 ghost use Rattle.script.specs.Commands.{last_word, tint_of_word, fill_scripted, ball_scripted, tint_scripted, scripted, change_row, tried_rows, question_rows, other_rows, command_read_by, at_words, try_words, tint_rows, get_spelled, colour_spelled, count_spelled, faces_spelled, command_alone, way_spelled, sized, step_by, ray_spelled, save_name, save_spelled, of_version, forget_spelled, same_spelled, command_spelled};
-ghost use Rattle.history_model.specs.Spelled.{act_told};
+ghost use Rattle.history_model.specs.Spelled.{spelled_act};
 ghost use Rattle.script.specs.Said.{step_said, way_said, asked_command, name_said, query_command, command_said};
 
 use crate::names::{is_change, is_edit, is_question};
 use crate::numbers::number;
-use crate::said::{Asked, NameWord, Query, Said, Step, Steps};
+use crate::said::{Asked, NameWord, SignedSize, SpelledAsk, SpelledCommand, SpelledSteps};
 use crate::words::Words;
 use history_model::{Spelled, SpelledTint, read_act, read_box, three_numbers};
 use plain_text::{ThreeWords, WordFault, number_by, take_end, take_three, take_word};
@@ -46,7 +46,11 @@ const SAVE: &[u8] = b"save";
 /// The command of this name with the words that follow it, wherever it may lie, in a world with
 /// tints or without.
 #[tactic(auto, using(crate::proofs::RowLaws::change_found))]
-pub(crate) fn spell_command(tint: bool, name: &[u8], words: &mut Words) -> Result<Said, WordFault>
+pub(crate) fn spell_command(
+    tint: bool,
+    name: &[u8],
+    words: &mut Words,
+) -> Result<SpelledCommand, WordFault>
     ensures { Gives (command_said tint) result (command_spelled tint name.now words.old) }
 {
     if is_change(name) {
@@ -59,15 +63,20 @@ pub(crate) fn spell_command(tint: bool, name: &[u8], words: &mut Words) -> Resul
 }
 
 // The change of this name, in one attempt where `once` is set.
-fn spell_change(tint: bool, once: bool, name: &[u8], words: &mut Words) -> Result<Said, WordFault>
+fn spell_change(
+    tint: bool,
+    once: bool,
+    name: &[u8],
+    words: &mut Words,
+) -> Result<SpelledCommand, WordFault>
     ensures { Gives (command_said tint) result ((change_row tint once name.now).read words.old) }
 {
     let act = read_change(tint, name, words)?;
-    Ok(Said::Edit(act, once))
+    Ok(SpelledCommand::Edit(act, once))
 }
 
 fn read_change(tint: bool, name: &[u8], words: &mut Words) -> Result<SpelledTint, WordFault>
-    ensures { Gives (act_told tint) result (scripted tint name.now words.old) }
+    ensures { Gives (spelled_act tint) result (scripted tint name.now words.old) }
 {
     if tint {
         return read_tinted(name, words);
@@ -78,7 +87,7 @@ fn read_change(tint: bool, name: &[u8], words: &mut Words) -> Result<SpelledTint
 
 #[tactic(auto, unfolding(crate::specs::Commands::tint_scripted))]
 fn read_tinted(name: &[u8], words: &mut Words) -> Result<SpelledTint, WordFault>
-    ensures { Gives (act_told true) result (tint_scripted name.now words.old) }
+    ensures { Gives (spelled_act true) result (tint_scripted name.now words.old) }
 {
     if name == FILL {
         return read_fill(words);
@@ -92,7 +101,7 @@ fn read_tinted(name: &[u8], words: &mut Words) -> Result<SpelledTint, WordFault>
 
 #[tactic(auto, unfolding(crate::specs::Commands::fill_scripted))]
 fn read_fill(words: &mut Words) -> Result<SpelledTint, WordFault>
-    ensures { Gives (act_told true) result (fill_scripted words.old) }
+    ensures { Gives (spelled_act true) result (fill_scripted words.old) }
 {
     let at = take_three(words)?;
     let size = take_three(words)?;
@@ -106,7 +115,7 @@ fn read_fill(words: &mut Words) -> Result<SpelledTint, WordFault>
 
 #[tactic(auto, unfolding(crate::specs::Commands::ball_scripted))]
 fn read_ball(words: &mut Words) -> Result<SpelledTint, WordFault>
-    ensures { Gives (act_told true) result (ball_scripted words.old) }
+    ensures { Gives (spelled_act true) result (ball_scripted words.old) }
 {
     let centre = take_three(words)?;
     let radius = take_word(words)?;
@@ -139,7 +148,7 @@ fn read_tint(word: Option<&[u8]>) -> Result<u32, WordFault>
     }
 }
 
-fn spell_ask(tint: bool, name: &[u8], words: &mut Words) -> Result<Said, WordFault>
+fn spell_ask(tint: bool, name: &[u8], words: &mut Words) -> Result<SpelledCommand, WordFault>
     ensures { Gives (command_said tint) result
         (command_read_by (question_rows tint) (Err Word) name.now words.old) }
 {
@@ -147,27 +156,27 @@ fn spell_ask(tint: bool, name: &[u8], words: &mut Words) -> Result<Said, WordFau
     Ok(of_newest(query))
 }
 
-fn of_newest(query: Query) -> Said
+fn of_newest(query: SpelledAsk) -> SpelledCommand
     ensures { (tint : Bool) → command_said tint result ≡ query_command query }
 {
     match query {
-        Query::Question(asked) => Said::Ask(None, asked),
-        Query::Save(name, at, size) => Said::Save(None, name, at, size),
+        SpelledAsk::Question(asked) => SpelledCommand::Ask(None, asked),
+        SpelledAsk::Save(name, at, size) => SpelledCommand::Save(None, name, at, size),
     }
 }
 
-fn of_version(version: u32, query: Query) -> Said
+fn of_version(version: u32, query: SpelledAsk) -> SpelledCommand
     ensures { (tint : Bool) → command_said tint result ≡ of_version version (query_command query) }
 {
     match query {
-        Query::Question(asked) => Said::Ask(Some(version), asked),
-        Query::Save(name, at, size) => Said::Save(Some(version), name, at, size),
+        SpelledAsk::Question(asked) => SpelledCommand::Ask(Some(version), asked),
+        SpelledAsk::Save(name, at, size) => SpelledCommand::Save(Some(version), name, at, size),
     }
 }
 
 // What is asked by this name with the words that follow it.
 #[tactic(auto, using(crate::proofs::RowLaws::save_found))]
-fn spell_query(tint: bool, name: &[u8], words: &mut Words) -> Result<Query, WordFault>
+fn spell_query(tint: bool, name: &[u8], words: &mut Words) -> Result<SpelledAsk, WordFault>
     ensures { Gives query_command result
         (command_read_by (question_rows tint) (Err Word) name.now words.old) }
 {
@@ -175,7 +184,7 @@ fn spell_query(tint: bool, name: &[u8], words: &mut Words) -> Result<Query, Word
         return spell_save(words);
     }
     let asked = spell_question(tint, name, words)?;
-    Ok(Query::Question(asked))
+    Ok(SpelledAsk::Question(asked))
 }
 
 // The question of this name with the words that follow it.
@@ -258,7 +267,7 @@ fn spell_bounds(words: &mut Words) -> Result<Asked, WordFault>
 }
 
 #[tactic(auto, unfolding(crate::specs::Commands::save_spelled))]
-fn spell_save(words: &mut Words) -> Result<Query, WordFault>
+fn spell_save(words: &mut Words) -> Result<SpelledAsk, WordFault>
     ensures { Gives query_command result (save_spelled words.old) }
 {
     let name = take_word(words)?;
@@ -267,7 +276,7 @@ fn spell_save(words: &mut Words) -> Result<Query, WordFault>
     take_end(words)?;
     let corner = three_numbers::<Words>(&at)?;
     let extent = three_numbers::<Words>(&size)?;
-    Ok(Query::Save(name_word(name), corner, extent))
+    Ok(SpelledAsk::Save(name_word(name), corner, extent))
 }
 
 fn name_word(word: &[u8]) -> NameWord
@@ -314,17 +323,17 @@ fn spell_ray(words: &mut Words) -> Result<Asked, WordFault>
 }
 
 #[tactic(auto, unfolding(crate::specs::Commands::way_spelled))]
-fn read_steps(words: &ThreeWords) -> Result<Steps, WordFault>
+fn read_steps(words: &ThreeWords) -> Result<SpelledSteps, WordFault>
     ensures { Gives way_said result (way_spelled words.now) }
 {
     let x = read_step(words.x)?;
     let y = read_step(words.y)?;
     let z = read_step(words.z)?;
-    Ok(Steps { x, y, z })
+    Ok(SpelledSteps { x, y, z })
 }
 
 // A step of a ray, which may have one `-` before its digits.
-fn read_step(word: &[u8]) -> Result<Step, WordFault>
+fn read_step(word: &[u8]) -> Result<SignedSize, WordFault>
     ensures { Gives step_said result (step_by word.now) }
 {
     match word.strip_prefix(b"-") {
@@ -333,18 +342,18 @@ fn read_step(word: &[u8]) -> Result<Step, WordFault>
     }
 }
 
-fn read_size(digits: &[u8], low: bool) -> Result<Step, WordFault>
+fn read_size(digits: &[u8], low: bool) -> Result<SignedSize, WordFault>
     ensures { Gives step_said result (sized low digits.now) }
 {
     match number(digits) {
-        Ok(size) => Ok(Step { low, size }),
+        Ok(size) => Ok(SignedSize { low, size }),
         Err(_) => Err(WordFault::Number),
     }
 }
 
 // A command that is no change and no question.
 #[tactic(auto, unfolding(crate::specs::Commands::other_rows))]
-fn spell_other(tint: bool, name: &[u8], words: &mut Words) -> Result<Said, WordFault>
+fn spell_other(tint: bool, name: &[u8], words: &mut Words) -> Result<SpelledCommand, WordFault>
     ensures { Gives (command_said tint) result
         (command_read_by (other_rows tint) (Err Word) name.now words.old) }
 {
@@ -367,17 +376,17 @@ fn spell_other(tint: bool, name: &[u8], words: &mut Words) -> Result<Said, WordF
 }
 
 #[tactic(auto, unfolding(crate::specs::Commands::forget_spelled))]
-fn spell_forget(tint: bool, words: &mut Words) -> Result<Said, WordFault>
+fn spell_forget(tint: bool, words: &mut Words) -> Result<SpelledCommand, WordFault>
     ensures { Gives (command_said tint) result (forget_spelled words.old) }
 {
     let version = take_word(words)?;
     take_end(words)?;
     let v = number_by::<Words>(version)?;
-    Ok(Said::Forget(v))
+    Ok(SpelledCommand::Forget(v))
 }
 
 #[tactic(auto, unfolding(crate::specs::Commands::same_spelled))]
-fn spell_same(tint: bool, words: &mut Words) -> Result<Said, WordFault>
+fn spell_same(tint: bool, words: &mut Words) -> Result<SpelledCommand, WordFault>
     ensures { Gives (command_said tint) result (same_spelled words.old) }
 {
     let first = take_word(words)?;
@@ -385,19 +394,19 @@ fn spell_same(tint: bool, words: &mut Words) -> Result<Said, WordFault>
     take_end(words)?;
     let v = number_by::<Words>(first)?;
     let w = number_by::<Words>(second)?;
-    Ok(Said::Same(v, w))
+    Ok(SpelledCommand::Same(v, w))
 }
 
-fn spell_head(tint: bool, words: &mut Words) -> Result<Said, WordFault>
+fn spell_head(tint: bool, words: &mut Words) -> Result<SpelledCommand, WordFault>
     ensures { Gives (command_said tint) result (command_alone Head words.old) }
 {
     take_end(words)?;
-    Ok(Said::Head)
+    Ok(SpelledCommand::Head)
 }
 
 // A question of the version that stands before it.
 #[tactic(auto, unfolding(crate::specs::Commands::at_words))]
-fn spell_at(tint: bool, words: &mut Words) -> Result<Said, WordFault>
+fn spell_at(tint: bool, words: &mut Words) -> Result<SpelledCommand, WordFault>
     ensures { Gives (command_said tint) result (at_words tint words.old) }
 {
     let version = take_word(words)?;
@@ -409,7 +418,7 @@ fn spell_at(tint: bool, words: &mut Words) -> Result<Said, WordFault>
 
 // One of the edits, in one attempt.
 #[tactic(auto, unfolding(crate::specs::Commands::try_words))]
-fn spell_try(tint: bool, words: &mut Words) -> Result<Said, WordFault>
+fn spell_try(tint: bool, words: &mut Words) -> Result<SpelledCommand, WordFault>
     ensures { Gives (command_said tint) result (try_words tint words.old) }
 {
     let name = take_word(words)?;
@@ -417,7 +426,7 @@ fn spell_try(tint: bool, words: &mut Words) -> Result<Said, WordFault>
 }
 
 #[tactic(auto, using(crate::proofs::RowLaws::tried_unknown))]
-fn spell_tried(tint: bool, name: &[u8], words: &mut Words) -> Result<Said, WordFault>
+fn spell_tried(tint: bool, name: &[u8], words: &mut Words) -> Result<SpelledCommand, WordFault>
     ensures { Gives (command_said tint) result
         (command_read_by (tried_rows tint) (Err Word) name.now words.old) }
 {

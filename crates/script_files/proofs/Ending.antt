@@ -1,14 +1,12 @@
 -- What each stage of a run gives, as an outcome of the whole command.
-use Rattle.std.proofs.Common.{◌≡◌, ◌⊎◌, inl, inr, ℕ, ◌^◌, ◌≤◌, Bool, List, [], ◌∷◌, ◌++◌, length, map, Option, Some, None, Result, Ok, Err, refl, sym, ap, subst, ◌∙◌, arith, append_assoc, append-nil}
+use Rattle.std.proofs.Common.{◌≡◌, inl, inr, ℕ, ◌^◌, ◌≤◌, Bool, List, [], ◌∷◌, ◌++◌, length, map, Option, Some, None, Result, Ok, Err, refl, sym, ap, subst, ◌∙◌, arith, append_assoc, append-nil}
 use Rattle.std.specs.Prelude.{All}
 use Rattle.std.proofs.lemmas.List.{length-append}
 use Rattle.std.proofs.lemmas.List.Elements.{All-append, All-contains, All-head, All-nil, All-tail}
-use Rattle.vw_io.specs.declared.shelves.WriteRefused.{WriteRefused}
-use Rattle.vw_io.specs.declared.shelves.WriteRefused.TheVariants.{Memory}
 use Rattle.history_model.specs.Logs.{Log}
 use Rattle.vw_io.specs.Outside.{Files, ShelfState}
 use Rattle.vw_io.specs.Inputs.{AreTaken}
-use Rattle.vw_io.specs.Outputs.{Named, AreWritten, StopsWith}
+use Rattle.vw_io.specs.Outputs.{Named, AreWritten}
 use Rattle.history_model.specs.Journal.{journal_of}
 use Rattle.vox_read.specs.Contents.{Content}
 use Rattle.transcript.specs.Lines.{transcript_of}
@@ -21,9 +19,9 @@ use Rattle.script.specs.Commands.{name_bytes}
 use Rattle.script.specs.Fitting.{CommandFits, RisesFrom}
 use Rattle.script.specs.declared.commands.ScriptLine.{ScriptLine}
 use Rattle.transcript.specs.declared.answers.LineAnswer.{LineAnswer}
-use Rattle.conformance.specs.sessions.Kept.{kept_of, kept_by}
+use Rattle.conformance.specs.sessions.LoggedSaves.{logged_of, logged_by}
 use Rattle.conformance.specs.sessions.Ran.{SessionsRanKeeping, ClosesWorld}
-use Rattle.conformance.specs.sessions.Seen.{SessionSeen}
+use Rattle.conformance.specs.sessions.SessionViews.{SessionView}
 use Rattle.conformance.proofs.OfSessions.Closing.{are_a_run}
 use Rattle.conformance.proofs.OfSessions.KeptWorlds.{saved_stay}
 use Rattle.conformance.proofs.OfSessions.SuitLaws.{history_suits}
@@ -32,34 +30,36 @@ use Rattle.world_run.specs.Ends.{IsEndOf}
 use Rattle.world_run.specs.Open.{RunState, file_of_save}
 use Rattle.script_files.specs.declared.tallies.RunWritten.{RunWritten}
 use Rattle.report.specs.Numbers.{AreNumbers}
-use Rattle.report.specs.Roots.{RootsTellWorlds, listed_root}
+use Rattle.report.specs.Roots.{RootsNameWorlds, listed_root}
 use Rattle.world_run.specs.declared.runs.ScriptsRun.{ScriptsRun}
 use Rattle.world_run.specs.declared.endings.WorldRan.{WorldRan}
 use Rattle.script_files.specs.declared.tallies.Tally.{Tally}
-use Rattle.script_files.specs.declared.refusals.CommandRefused.TheVariants.{Text, Output}
-use Rattle.script_files.specs.declared.refusals.OutputName.{OutputName}
-use Rattle.script_files.specs.declared.refusals.OutputRefused.{OutputRefused}
-use Rattle.script_files.specs.declared.refusals.TextRefused.{TextRefused}
-use Rattle.script_files.specs.declared.refusals.TextRefused.TheVariants.{Vox, Script, Collides}
-use Rattle.script_files.specs.declared.refusals.TextRefused.TheVariants as texts_refused
-use Rattle.script_files.specs.declared.refusals.NumberedFault.{NumberedFault}
+use Rattle.commands.specs.declared.refusals.CommandRefused.TheVariants.{Text, Output}
+use Rattle.commands.specs.declared.refusals.OutputRefused.{OutputRefused}
+use Rattle.commands.specs.declared.refusals.OutputRefused.TheVariants.{Memory}
+use Rattle.commands.specs.declared.refusals.TextRefused.{TextRefused}
+use Rattle.commands.specs.declared.refusals.TextRefused.TheVariants.{Vox, Script, Collides}
+use Rattle.commands.specs.declared.refusals.TextRefused.TheVariants as texts_refused
+use Rattle.commands.specs.declared.refusals.NumberedFault.{NumberedFault}
 use Rattle.script_files.specs.declared.scripts.Read.{Read}
-use Rattle.script_files.specs.Orders.{Asked}
-use Rattle.script_files.specs.Refusals.{output_name}
-use Rattle.script_files.specs.Scripts.{AreFitScripts, lines_asked}
+use Rattle.requests.specs.Orders.{Asked}
+use Rattle.commands.specs.Putting.{StopsAmong}
+use Rattle.commands.specs.Scripts.{AreFitScripts, lines_asked}
 use Rattle.script_files.specs.Reports.{ReportIs, BeginsTexts}
-use Rattle.script_files.specs.Requests.{RunOutputs, given_seen, given_by, run_inputs, named_texts, transcript_name, save_file, saved_output, wanted_output, written_first, written_last, texts_written}
-use Rattle.script_files.specs.Judging.{AgreesWith, FilesAreRead, IsJudged}
-use Rattle.script_files.specs.Meanings.{file_in, scripts_in}
+use Rattle.script_files.specs.Requests.{RunOutputs, given_seen, given_by, run_inputs, named_texts, save_file, saved_output, wanted_output, written_first, written_last, texts_written}
+use Rattle.commands.specs.Inputs.{transcript_name}
+use Rattle.commands.specs.Judging.{AgreesWith, FilesAreRead, IsJudged}
+use Rattle.commands.specs.Meanings.{file_in, scripts_in}
 use Rattle.script_files.specs.Runs.{IsAccepted, TalliesRun, ScriptsBegan, FaultsScript, HasTakenName, RefusesRun, verdict_of_names, run_means}
-use Rattle.script_files.specs.Outcomes.{Outcome}
-use Rattle.script_files.specs.Verdicts.{Verdict, Fine, HasScriptFault, NamesCollide, JudgesModels}
+use Rattle.commands.specs.Outcomes.{Outcome}
+use Rattle.commands.specs.Verdicts.{Verdict, Fine, HasScriptFault, NamesCollide, JudgesModels}
 use Rattle.script_files.specs.Stages.{JournalIs, ReadsInputs, given_of, ClosesRun, TellsClosedRun, HistoryTexts, AreTexts, WroteHistory, StopsOpen, StopsClosed, WritesClosed, WritesHistory, WroteRun, BeginsRun, StopsRun, WritesRun}
 use Rattle.world_run.proofs.Accepting.{saves_fit}
 use Rattle.script_files.proofs.SavedFiles.{IsGood, save_same}
-use Rattle.script_files.proofs.Accepting.{not_accepted}
-use Rattle.script_files.proofs.Following.{models_once, models_computed, computed_is_some}
-use Rattle.script_files.proofs.Writing.{both_written, stops_after, stops_before, stops_earlier, stops_at_once}
+use Rattle.commands.proofs.Accepting.{not_accepted}
+use Rattle.commands.proofs.Following.{models_once, models_computed, computed_is_some}
+use Rattle.commands.proofs.Writing.{both_written}
+use Rattle.commands.proofs.Putting.{among_after, among_before, at_once, broken_off}
 
 -- ---- what a run writes
 
@@ -73,10 +73,9 @@ no_report others (Some name) models log none =
     absurd (omega (arith, long, zero))
 
 -- nothing of the journal and the report was written
-pub nothing_began : (asked : Asked) (r : RunState) (closed : Closed) (refused : OutputRefused)
-    (state : ShelfState) → ClosesRun r closed → refused.why ≡ Memory
-    → StopsClosed asked r refused state state
-nothing_began asked r closed refused state closes is = record {
+pub nothing_began : (asked : Asked) (r : RunState) (closed : Closed) (state : ShelfState)
+    → ClosesRun r closed → StopsClosed asked r Memory state state
+nothing_began asked r closed state closes = record {
   closed = closed;
   closes = closes;
   outputs = [];
@@ -85,16 +84,12 @@ nothing_began asked r closed refused state closes is = record {
   parts = refl;
   reported = no_report (wanted_output asked.journal (journal_of closed.history)) asked.report
       r.models closed.history;
-  stops = stops_at_once refused.why (output_name refused.name) [] state.files state.faults is;
+  stops = at_once [] state;
 }
 
-pub not_closed : (asked : Asked) (r : RunState) (refused : OutputRefused) (state : ShelfState)
-    → refused.why ≡ Memory → HadHistory r.tint r.plan r.models r.sessions
-    → WritesHistory asked r (Err refused) state state
-not_closed asked r refused state is had = inl (record {
-  had = had;
-  stops = stops_at_once refused.why (output_name refused.name) [] state.files state.faults is;
-})
+pub not_closed : (asked : Asked) (r : RunState) (state : ShelfState)
+    → HadHistory r.tint r.plan r.models r.sessions → WritesHistory asked r (Err Memory) state state
+not_closed asked r state had = inl (record { had = had; stops = at_once [] state })
 
 pub closed_writes : (asked : Asked) (r : RunState) (result : Result RunWritten OutputRefused)
     (old new : ShelfState) → WritesClosed asked r result old new
@@ -105,7 +100,7 @@ closed_writes asked r (Err refused) old new writes = inr writes
 -- the texts of a closed world are those of its history
 pub told_texts : (asked : Asked) (r : RunState) (w : WorldRan) (texts : HistoryTexts)
     → TellsClosedRun r w
-    → ((models : List Content) → RootsTellWorlds models w.ended.history (listed_root w.roots.items)
+    → ((models : List Content) → RootsNameWorlds models w.ended.history (listed_root w.roots.items)
     → AreNumbers models w.ended.history w.numbers.items
     → AreTexts asked models w.ended.history texts)
     → AreTexts asked r.models w.ended.history texts
@@ -146,23 +141,10 @@ history_written asked r closed written outputs tally old new closes are is told 
       never_falls = calm;
     }
 
--- a refusal that was made of this name and cause
-pub stops_from : (r : OutputRefused) (name : OutputName) (why : WriteRefused)
-    (outputs : List Named) (old new : ShelfState) → r.name ≡ name → r.why ≡ why
-    → StopsWith why (output_name name) outputs old.files new.files old.faults new.faults
-    → StopsWith r.why (output_name r.name) outputs old.files new.files old.faults new.faults
-stops_from r name why outputs old new named is stops =
-    subst (λ (n : OutputName). StopsWith r.why (output_name n) outputs old.files new.files
-    old.faults new.faults) (sym named)
-    (subst (λ (w : WriteRefused). StopsWith w (output_name name) outputs old.files new.files
-    old.faults new.faults) (sym is) stops)
-
 pub history_stopped : (asked : Asked) (r : RunState) (closed : Closed) (written : HistoryTexts)
     (outputs : List Named) (refused : OutputRefused) (old new : ShelfState) → ClosesRun r closed
     → AreTexts asked r.models closed.history written → outputs ≡ outputs_last asked written
-    → StopsWith refused.why (output_name refused.name) outputs old.files new.files old.faults
-    new.faults
-    → StopsClosed asked r refused old new
+    → StopsAmong refused outputs old new → StopsClosed asked r refused old new
 history_stopped asked r closed written outputs refused old new closes are is stops = record {
   closed = closed;
   closes = closes;
@@ -190,9 +172,7 @@ module _ (asked : Asked) (run : ScriptsRun) (old : ShelfState) where
   -- some first ones of these
   began_first : HadHistory run.run.tint run.run.plan run.run.models run.run.sessions
       → (r : OutputRefused) (new : ShelfState)
-      → StopsWith r.why (output_name r.name) (written_first asked given) old.files new.files
-      old.faults new.faults
-      → StopsRun asked run r old new
+      → StopsAmong r (written_first asked given) old new → StopsRun asked run r old new
   began_first had r new stops = record {
     outputs = written_first asked given;
     begins = record {
@@ -211,23 +191,18 @@ module _ (asked : Asked) (run : ScriptsRun) (old : ShelfState) where
 
   pub stops_in_texts : HadHistory run.run.tint run.run.plan run.run.models run.run.sessions
       → (r : OutputRefused) (new : ShelfState)
-      → StopsWith r.why (output_name r.name) texts_named old.files new.files old.faults new.faults
-      → StopsRun asked run r old new
+      → StopsAmong r texts_named old new → StopsRun asked run r old new
   stops_in_texts had r new stops =
-      began_first had r new
-      (stops_before r.why (output_name r.name) texts_named files_saved old.files new.files
-      old.faults new.faults stops)
+      began_first had r new (among_before r texts_named files_saved old new stops)
 
   module _ (mid : ShelfState) (texts_whole : AreWritten texts_named old.files mid.files)
       (texts_calm : old.faults ≤ mid.faults) where
     pub stops_in_files : HadHistory run.run.tint run.run.plan run.run.models run.run.sessions
         → (r : OutputRefused) (new : ShelfState)
-        → StopsWith r.why (output_name r.name) files_saved mid.files new.files mid.faults new.faults
-        → StopsRun asked run r old new
+        → StopsAmong r files_saved mid new → StopsRun asked run r old new
     stops_in_files had r new stops =
         began_first had r new
-        (stops_after r.why (output_name r.name) texts_named files_saved old.files mid.files
-        new.files old.faults mid.faults new.faults texts_whole texts_calm stops)
+        (among_after r texts_named files_saved old mid new texts_whole texts_calm stops)
 
     module _ (late : ShelfState) (files_whole : AreWritten files_saved mid.files late.files)
         (files_calm : mid.faults ≤ late.faults) where
@@ -241,10 +216,9 @@ module _ (asked : Asked) (run : ScriptsRun) (old : ShelfState) where
           → StopsRun asked run r old new
       stops_in_closing r new h =
           began_first h.had r new
-          (subst (λ (os : List Named). StopsWith r.why (output_name r.name) os old.files new.files
-          old.faults new.faults) (append-nil (written_first asked given))
-          (stops_after r.why (output_name r.name) (written_first asked given) [] old.files
-          late.files new.files old.faults late.faults new.faults first_whole
+          (subst (λ (os : List Named). StopsAmong r os old new)
+          (append-nil (written_first asked given))
+          (among_after r (written_first asked given) [] old late new first_whole
           (omega (arith, texts_calm, files_calm)) h.stops))
 
       stops_in_history : (r : OutputRefused) (new : ShelfState)
@@ -264,8 +238,7 @@ module _ (asked : Asked) (run : ScriptsRun) (old : ShelfState) where
           };
         };
         stops =
-            stops_after r.why (output_name r.name) (written_first asked given) h.outputs old.files
-            late.files new.files old.faults late.faults new.faults first_whole
+            among_after r (written_first asked given) h.outputs old late new first_whole
             (omega (arith, texts_calm, files_calm)) h.stops;
       }
 
@@ -314,12 +287,12 @@ named_file save file = record { name = name_bytes save.name; bytes = file }
 
 pub saved_same : (keep : ℕ) (tint : Bool) (p : Layout) (models : List Content)
     (lines : List (List ScriptLine)) (transcripts : List (List LineAnswer))
-    (sessions : List SessionSeen) (log : Log)
+    (sessions : List SessionView) (log : Log)
     → AreFitScripts tint p.side models lines
     → SessionsRanKeeping keep tint p models 0 lines transcripts sessions
     → ClosesWorld tint p models sessions log
-    → map (saved_output (file_of_save tint models)) (kept_of lines transcripts sessions)
-    ≡ map (saved_output (save_file tint models)) (kept_by lines transcripts log)
+    → map (saved_output (file_of_save tint models)) (logged_of lines transcripts sessions)
+    ≡ map (saved_output (save_file tint models)) (logged_by lines transcripts log)
 saved_same keep tint p models lines transcripts sessions log fits ran closes =
     saved_stay (saved_output (file_of_save tint models)) (saved_output (save_file tint models))
     (IsGood tint p) tint p models log
@@ -334,7 +307,7 @@ saved_same keep tint p models lines transcripts sessions log fits ran closes =
 
 -- so what was written first is what the one history gives
 pub first_same : (asked : Asked) (models : List Content) (lines : List (List ScriptLine))
-    (transcripts : List (List LineAnswer)) (sessions : List SessionSeen) (log : Log)
+    (transcripts : List (List LineAnswer)) (sessions : List SessionView) (log : Log)
     → AreFitScripts asked.tint asked.plan.side models lines
     → SessionsRanKeeping asked.keep asked.tint asked.plan models 0 lines transcripts sessions
     → ClosesWorld asked.tint asked.plan models sessions log
@@ -351,7 +324,7 @@ module _ (asked : Asked) (models : List Content) (lines : List (List ScriptLine)
     run.run.sessions)
     (plan_is : run.run.plan ≡ asked.plan) (tint_is : run.run.tint ≡ asked.tint)
     (models_are : run.run.models ≡ models)
-    (kept : run.run.kept ≡ kept_of lines run.transcripts.items run.run.sessions)
+    (kept : run.run.kept ≡ logged_of lines run.transcripts.items run.run.sessions)
     (fits : AreFitScripts asked.tint asked.plan.side models lines) where
   pub given_same : given_of run
       ≡ given_seen asked.tint models lines run.transcripts.items run.run.sessions
@@ -425,7 +398,7 @@ module _ (asked : Asked) (texts : List (List ℕ)) (r : Read) (run : ScriptsRun)
     run.transcripts.items run.run.sessions)
     (plan_is : run.run.plan ≡ asked.plan) (tint_is : run.run.tint ≡ asked.tint)
     (models_are : run.run.models ≡ r.models)
-    (kept : run.run.kept ≡ kept_of r.scripts.items run.transcripts.items run.run.sessions)
+    (kept : run.run.kept ≡ logged_of r.scripts.items run.transcripts.items run.run.sessions)
     (fits : AreFitScripts asked.tint asked.plan.side r.models r.scripts.items)
     (same : mid.files ≡ old.files) (grown : old.faults ≤ mid.faults) where
   abbrev accepts : (log : Log)
@@ -483,14 +456,9 @@ module _ (asked : Asked) (texts : List (List ℕ)) (r : Read) (run : ScriptsRun)
 
   pub run_stopped : (refused : OutputRefused) → StopsRun asked run refused mid new
       → Outcome (run_means asked) (Err (Output refused)) old new
-  run_stopped refused stopped = record {
-    texts = texts;
-    taken = taken;
-    outputs = stopped.outputs;
-    begun = run_begun stopped.outputs stopped.begins;
-    stops = stops_earlier refused.why (output_name refused.name) stopped.outputs old mid new same
-        grown stopped.stops;
-  }
+  run_stopped refused stopped =
+      broken_off refused (run_means asked) texts stopped.outputs old mid new taken
+      (run_begun stopped.outputs stopped.begins) same grown stopped.stops
 
 -- the inputs were taken, and their texts are refused
 pub run_refused : (asked : Asked) (texts : List (List ℕ)) (r : TextRefused) (old new : ShelfState)

@@ -1,31 +1,31 @@
 -- What holds of every command.
-use Rattle.script_files.specs.declared.requests.Request.{Request}
-use Rattle.script_files.specs.declared.requests.Request.TheVariants.{Count, Run, Demo, Flood, Scene, Dag, Look, Audit}
+use Rattle.requests.specs.declared.orders.Request.{Request}
+use Rattle.requests.specs.declared.orders.Request.TheVariants.{Count, Run, Demo, Flood, Scene, Dag, Look, Audit}
 use Rattle.script_files.specs.declared.tallies.Completed.{Completed}
 use Rattle.script_files.specs.declared.tallies.Done.TheVariants.{Written, Counted, Placed, Looked, Answered}
 use Rattle.vw_io.specs.Outside.{ShelfState}
 use Rattle.std.proofs.Common.{◌≡◌, refl, sym, subst}
-use Rattle.script_files.specs.Audits.{audit_means}
+use Rattle.commands.specs.Audits.{audit_means}
 use Rattle.script_files.specs.Commands.{alone, run_told, load_told, meaning_of}
-use Rattle.script_files.specs.Counts.{count_means}
-use Rattle.script_files.specs.Dags.{dag_means}
+use Rattle.commands.specs.Counts.{count_means}
+use Rattle.commands.specs.Dags.{dag_means}
 use Rattle.script_files.specs.Demos.{demo_means}
-use Rattle.script_files.specs.Floods.{flood_means}
-use Rattle.script_files.specs.Judging.{IsJudged}
-use Rattle.script_files.specs.Looks.{look_means}
-use Rattle.script_files.specs.Meanings.{Meaning, told_as}
-use Rattle.script_files.specs.Outcomes.{Completes}
+use Rattle.commands.specs.Floods.{flood_means}
+use Rattle.commands.specs.Judging.{IsJudged}
+use Rattle.commands.specs.Looks.{look_means}
+use Rattle.commands.specs.Meanings.{Meaning, told_as}
+use Rattle.commands.specs.Outcomes.{Completes}
 use Rattle.script_files.specs.Runs.{run_means}
-use Rattle.script_files.specs.Scenes.{scene_means}
-use Rattle.script_files.proofs.Auditing.{audit_judged}
-use Rattle.script_files.proofs.Counting.{count_judged}
-use Rattle.script_files.proofs.Dagging.{dag_judged}
+use Rattle.commands.specs.Scenes.{scene_means}
+use Rattle.commands.proofs.Auditing.{audit_judged}
+use Rattle.commands.proofs.Counting.{count_judged}
+use Rattle.commands.proofs.Dagging.{dag_judged}
 use Rattle.script_files.proofs.Ending.{run_judged}
-use Rattle.script_files.proofs.Flooding.{flood_judged}
-use Rattle.script_files.proofs.Following.{judged_as}
+use Rattle.commands.proofs.Flooding.{flood_judged}
+use Rattle.commands.proofs.Following.{judged_as}
 use Rattle.script_files.proofs.Loading.{demo_judged}
-use Rattle.script_files.proofs.Looking.{look_judged}
-use Rattle.script_files.proofs.Placing.{scene_judged}
+use Rattle.commands.proofs.Looking.{look_judged}
+use Rattle.commands.proofs.Placing.{scene_judged}
 
 -- a command that came to its end did so as one of all
 pub completes_as : {T U : Type 0} (make : T → U) (m : Meaning T) (x : T) (old new : ShelfState)

@@ -1,5 +1,5 @@
 -- The run of a load, and what it leaves.
-use Rattle.std.proofs.Common.{false, inl, inr, ◌⊎◌, Some, ◌≡◌, ℕ, ◌*◌, ◌^◌, ◌≤◌, arith, Result, List, [], ◌∷◌, length, map, Vec, Global, Ok, Err, refl, sym, ap, subst, ◌∙◌}
+use Rattle.std.proofs.Common.{false, inl, inr, ◌≡◌, ℕ, ◌*◌, ◌^◌, ◌≤◌, arith, Result, List, [], ◌∷◌, length, map, Vec, Global, Ok, Err, refl, sym, ap, subst, ◌∙◌}
 use Rattle.std.proofs.lemmas.Bool.{cases_order}
 use Rattle.std.proofs.lemmas.List.{length-map}
 use Rattle.std.proofs.Math.Nat.{pow-le-pow_right}
@@ -17,28 +17,30 @@ use Rattle.gen_load.specs.Loads.{load_model, load_scripts, line_state, scripts_f
 use Rattle.text_laws.specs.loads.ReadLaws.{scripts_are_read}
 use Rattle.text_laws.specs.regions.LastCounts.{region_counts}
 use Rattle.text_laws.specs.regions.Statements.{load_lines, own_counts, LoadsAreCounted}
-use Rattle.script_files.specs.declared.refusals.NumberedFault.{NumberedFault}
+use Rattle.commands.specs.declared.refusals.NumberedFault.{NumberedFault}
 use Rattle.script_files.specs.declared.tallies.LoadTally.{LoadTally}
-use Rattle.script_files.specs.declared.refusals.CommandRefused.TheVariants.{Output}
-use Rattle.script_files.specs.declared.refusals.TextRefused.{TextRefused}
-use Rattle.script_files.specs.declared.refusals.TextRefused.TheVariants.{Memory}
-use Rattle.script_files.specs.Judging.{AgreesWith, IsJudged}
-use Rattle.script_files.specs.Meanings.{RefusesNothing}
-use Rattle.script_files.specs.Verdicts.{Fine}
-use Rattle.script_files.specs.Scripts.{AreFitScripts, scripts_of}
+use Rattle.commands.specs.declared.refusals.CommandRefused.TheVariants.{Output}
+use Rattle.commands.specs.declared.refusals.TextRefused.{TextRefused}
+use Rattle.commands.specs.declared.refusals.TextRefused.TheVariants.{Memory}
+use Rattle.commands.specs.Judging.{AgreesWith, IsJudged}
+use Rattle.commands.specs.Meanings.{RefusesNothing}
+use Rattle.commands.specs.Verdicts.{Fine}
+use Rattle.commands.specs.Scripts.{AreFitScripts, scripts_of}
 use Rattle.world_run.specs.Closed.{Closed}
-use Rattle.conformance.specs.sessions.Kept.{kept_of}
+use Rattle.conformance.specs.sessions.LoggedSaves.{logged_of}
 use Rattle.conformance.specs.sessions.Ran.{ClosesWorld, SessionsRan}
 use Rattle.vw_io.specs.Outputs.{Named}
 use Rattle.world_run.specs.declared.runs.ScriptsRun.{ScriptsRun}
 use Rattle.script_files.specs.declared.tallies.Tally.{Tally}
-use Rattle.script_files.specs.declared.refusals.OutputRefused.{OutputRefused}
+use Rattle.commands.specs.declared.refusals.OutputRefused.{OutputRefused}
 use Rattle.script_files.specs.declared.scripts.Read.{Read}
-use Rattle.script_files.specs.Requests.{RunOutputs, texts_written}
-use Rattle.script_files.specs.Demos.{demo_plan, demo_asked, demo_means, LoadBegan}
-use Rattle.script_files.specs.Outcomes.{Outcome}
+use Rattle.script_files.specs.Requests.{texts_written}
+use Rattle.requests.specs.ScriptNames.{demo_plan, demo_asked}
+use Rattle.script_files.specs.Demos.{demo_means, LoadBegan}
+use Rattle.commands.specs.Outcomes.{Outcome}
 use Rattle.script_files.specs.Stages.{IsLoadRead, given_of, WroteRun, BeginsRun, StopsRun}
-use Rattle.script_files.proofs.Ending.{given_same, is_coloured, is_run, ends_world, texts_same, begins_same}
+use Rattle.commands.proofs.Putting.{broken_off}
+use Rattle.script_files.proofs.Ending.{is_coloured, is_run, ends_world, texts_same, begins_same}
 
 -- 256 is one power of two alone
 pub eight_of_256 : (s : ℕ) → 2 ^ s ≡ 256 → s ≡ 8
@@ -115,7 +117,7 @@ module _ (n : ℕ) (r : Read) (run : ScriptsRun) (old new : ShelfState) (counted
     (ran : SessionsRan false demo_plan r.models 0 r.scripts.items run.transcripts.items run.run.sessions)
     (plan_is : run.run.plan ≡ demo_plan) (tint_is : run.run.tint ≡ false)
     (models_are : run.run.models ≡ r.models)
-    (kept : run.run.kept ≡ kept_of r.scripts.items run.transcripts.items run.run.sessions)
+    (kept : run.run.kept ≡ logged_of r.scripts.items run.transcripts.items run.run.sessions)
     (fits : AreFitScripts false 8 r.models r.scripts.items) where
   fits_load : AreFitScripts false 8 (load_model n ∷ []) r.scripts.items
   fits_load = subst (λ (ms : List Content). AreFitScripts false 8 ms r.scripts.items) read.models
@@ -194,13 +196,9 @@ module _ (n : ℕ) (r : Read) (run : ScriptsRun) (old new : ShelfState) (counted
 
   pub demo_stopped : (refused : OutputRefused) → StopsRun demo_asked run refused old new
       → Outcome (demo_means n) (Err (Output refused)) old new
-  demo_stopped refused s = record {
-    texts = [];
-    taken = tt;
-    outputs = s.outputs;
-    begun = demo_begun s.outputs s.begins;
-    stops = s.stops;
-  }
+  demo_stopped refused s =
+      broken_off refused (demo_means n) [] s.outputs old old new tt
+      (demo_begun s.outputs s.begins) refl (omega arith) s.stops
 
 -- ---- the verdict
 

@@ -7,9 +7,9 @@ use Rattle.vw_cell.specs.declared.cells.Cell.{Cell}
 use Rattle.vw_cell.specs.Counts.{cell_at}
 use Rattle.vw_cell.specs.Places.{FitsAt, IsInWorld}
 use Rattle.vox_read.specs.declared.voxels.Voxel.{Voxel}
-use Rattle.vox_read.specs.Contents.{Content, StandsInside}
+use Rattle.vox_read.specs.Contents.{Content, IsInsideModel}
 use Rattle.vox_write.specs.Written.{model_file}
-use Rattle.history_model.specs.Logs.{Log, FitsWorld, IsPlain, kept_side, suits_tints}
+use Rattle.history_model.specs.Logs.{Log, FitsWorld, IsPlain, side_of_world, suits_tints}
 use Rattle.history_model.specs.Moments.{world_has, world_tint}
 use Rattle.history_model.specs.Stores.{store_has}
 use Rattle.history_model.specs.Tints.{Tints}
@@ -26,13 +26,13 @@ use Rattle.core_laws.proofs.OfTints.VersionLaws.{versions_plain, versions_stored
 use Rattle.vox_scene.proofs.Ends.{same_exponent}
 use Rattle.script.specs.Fitting.{SaveFits}
 use Rattle.conformance.specs.declared.saves.SavedBox.{SavedBox}
-use Rattle.conformance.specs.Answers.{GoesOn}
+use Rattle.conformance.specs.Answers.{ExtendsLog}
 use Rattle.conformance.proofs.GoingOn.{tints_stay, world_stays}
-use Rattle.conformance.specs.sessions.Kept.{kept_at}
-use Rattle.conformance.specs.sessions.Seen.{SuitsWorld, log_as}
+use Rattle.conformance.specs.sessions.LoggedSaves.{logged_at}
+use Rattle.conformance.specs.sessions.SessionViews.{SuitsWorld, log_as}
 use Rattle.conformance.proofs.OfSessions.SuitLaws.{store_keeps}
 use Rattle.core_laws.proofs.OfTints.TintBounds.{versions_small}
-use Rattle.world_run.specs.Roots.{file_kept}
+use Rattle.world_run.specs.Roots.{stored_file}
 use Rattle.world_run.specs.Open.{file_of_save}
 use Rattle.script_files.specs.Requests.{save_file}
 use Rattle.script_files.specs.TintFiles.{file_of_tints, with_its_tint}
@@ -92,7 +92,7 @@ module _ (p : Layout) (models : List Content) (log : Log) (suits : SuitsWorld tr
       store_keeps true p models log suits v
       (cell_at (b.at.x + x) (b.at.y + y) (b.at.z + z)) (place_inside x y z of_x of_y of_z))
 
-  same_colour : (w : Voxel) → StandsInside b.size w
+  same_colour : (w : Voxel) → IsInsideModel b.size w
       → with_tint quarter cells b.at w ≡ with_its_tint tints b.at w
   same_colour w inside =
       let c : Cell = cell_at (b.at.x + w.x) (b.at.y + w.y) (b.at.z + w.z) in
@@ -105,7 +105,7 @@ module _ (p : Layout) (models : List Content) (log : Log) (suits : SuitsWorld tr
   tinted_same : tinted_voxels quarter b cells
       ≡ map (with_its_tint tints b.at) (voxels_of_box b here)
   tinted_same =
-      map_same (StandsInside b.size) (with_tint quarter cells b.at) (with_its_tint tints b.at)
+      map_same (IsInsideModel b.size) (with_tint quarter cells b.at) (with_its_tint tints b.at)
       same_colour (voxels_of_box b cells) (voxels_inside b cells)
       ∙ ap (map (with_its_tint tints b.at)) same_voxels
 
@@ -115,7 +115,7 @@ module _ (p : Layout) (models : List Content) (log : Log) (suits : SuitsWorld tr
       let large = suits.keeps.can.large in
       quarter_is log.side (2 ^ log.side) (omega (arith, exponent, large)) refl
 
-  pub tinted_file : file_kept true log.side b cells ≡ file_of_tints b here tints
+  pub tinted_file : stored_file true log.side b cells ≡ file_of_tints b here tints
   tinted_file =
       ap (λ (n : ℕ). model_file (record { size = b.size; voxels = tinted_voxels n b cells }))
       (sym quarter_same)
@@ -125,7 +125,7 @@ module _ (p : Layout) (models : List Content) (log : Log) (suits : SuitsWorld tr
 
 -- the save fits the world
 abbrev pub IsGood : Bool → Layout → SavedBox → Type 0
-IsGood tint p save = SaveFits (kept_side tint (2 ^ p.side)) save.name save.part
+IsGood tint p save = SaveFits (side_of_world tint (2 ^ p.side)) save.name save.part
 
 plain_acts : (p : Layout) (models : List Content) (log : Log) → SuitsWorld false p models log
     → IsPlain log
@@ -137,9 +137,9 @@ plain_acts p models log suits = record {
 
 -- the file of a save as its session saw the store is that of the save in the world of the history
 pub save_same : (tint : Bool) (p : Layout) (models : List Content) (log : Log) (save : SavedBox)
-    (s : Log) → SuitsWorld tint p models (log_as tint s) → GoesOn (log_as tint s) log
+    (s : Log) → SuitsWorld tint p models (log_as tint s) → ExtendsLog (log_as tint s) log
     → save.version ≤ length s.records → IsGood tint p save
-    → file_of_save tint models (kept_at s save) ≡ save_file tint models (kept_at log save)
+    → file_of_save tint models (logged_at s save) ≡ save_file tint models (logged_at log save)
 save_same false p models log save s suits g le good =
     let plain = plain_acts p models (log_as false s) suits in
     let cells : store_has models s save.version ≡ world_has models s.records save.version =

@@ -1,22 +1,21 @@
 -- What each command means, and what all have in common.
-use Rattle.std.specs.Prelude.{ℕ, List, [], Bool, Option, Some, None}
-use Rattle.transcript.specs.declared.answers.Answer.{Answer}
-use Rattle.script_files.specs.declared.requests.Request.{Request}
-use Rattle.script_files.specs.declared.requests.Request.TheVariants.{Count, Run, Demo, Flood, Scene, Dag, Look, Audit}
+use Rattle.std.specs.Prelude.{Some, None}
+use Rattle.requests.specs.declared.orders.Request.{Request}
+use Rattle.requests.specs.declared.orders.Request.TheVariants.{Count, Run, Demo, Flood, Scene, Dag, Look, Audit}
 use Rattle.script_files.specs.declared.tallies.Completed.{Completed}
 use Rattle.script_files.specs.declared.tallies.Done.{Done}
 use Rattle.script_files.specs.declared.tallies.Done.TheVariants.{Written, Counted, Ran, Shown, Placed, Looked, Answered}
 use Rattle.script_files.specs.declared.tallies.LoadWritten.{LoadWritten}
 use Rattle.script_files.specs.declared.tallies.RunWritten.{RunWritten}
-use Rattle.script_files.specs.Audits.{audit_means}
-use Rattle.script_files.specs.Counts.{count_means}
-use Rattle.script_files.specs.Dags.{dag_means}
-use Rattle.script_files.specs.Demos.{demo_asked, demo_means}
-use Rattle.script_files.specs.Floods.{flood_means}
-use Rattle.script_files.specs.Looks.{look_means}
-use Rattle.script_files.specs.Meanings.{Meaning, told_as}
+use Rattle.commands.specs.Audits.{audit_means}
+use Rattle.commands.specs.Counts.{count_means}
+use Rattle.commands.specs.Dags.{dag_means}
+use Rattle.script_files.specs.Demos.{demo_means}
+use Rattle.commands.specs.Floods.{flood_means}
+use Rattle.commands.specs.Looks.{look_means}
+use Rattle.commands.specs.Meanings.{Meaning, told_as}
 use Rattle.script_files.specs.Runs.{run_means}
-use Rattle.script_files.specs.Scenes.{scene_means}
+use Rattle.commands.specs.Scenes.{scene_means}
 
 -- what is told where no scripts ran
 abbrev pub alone : Done → Completed
@@ -38,10 +37,3 @@ meaning_of (Scene asked) = told_as (λ told. alone (Placed told)) (scene_means a
 meaning_of (Dag asked) = told_as (λ none. alone Written) (dag_means asked)
 meaning_of (Look asked) = told_as (λ answer. alone (Looked answer)) (look_means asked)
 meaning_of (Audit asked) = told_as (λ answer. alone (Answered answer)) (audit_means asked)
-
--- the names of the scripts whose transcripts a command writes, or reads
-abbrev pub scripts_asked : Request → List (List ℕ)
-scripts_asked (Run asked) = asked.scripts
-scripts_asked (Demo n) = demo_asked.scripts
-scripts_asked (Audit asked) = asked.scripts
-scripts_asked _ = []

@@ -1,8 +1,7 @@
 -- What the run of a load tells and writes.
-use Rattle.std.specs.Prelude.{◌≡◌, ℕ, false, List, [], ◌∷◌, length, Some, None, Ok, codes}
+use Rattle.std.specs.Prelude.{◌≡◌, ℕ, false, List, [], ◌∷◌, length, Ok}
 use Rattle.vw_io.specs.Outputs.{Named}
 use Rattle.history_model.specs.Logs.{Log}
-use Rattle.node_words.specs.Plans.{Layout, usual_buckets}
 use Rattle.transcript.specs.declared.answers.LineAnswer.{LineAnswer}
 use Rattle.script.specs.declared.commands.ScriptLine.{ScriptLine}
 use Rattle.conformance.specs.Runs.{AllRan}
@@ -13,29 +12,12 @@ use Rattle.text_laws.specs.regions.LastCounts.{region_counts}
 use Rattle.text_laws.specs.regions.Statements.{own_counts}
 use Rattle.script_files.specs.declared.tallies.LoadTally.{LoadTally}
 use Rattle.script_files.specs.declared.tallies.LoadWritten.{LoadWritten}
-use Rattle.script_files.specs.Meanings.{Meaning, RefusesNothing}
-use Rattle.script_files.specs.Orders.{Asked}
+use Rattle.commands.specs.Meanings.{Meaning, RefusesNothing}
+use Rattle.requests.specs.ScriptNames.{demo_plan, demo_asked}
 use Rattle.script_files.specs.Requests.{given_by, texts_written}
 use Rattle.script_files.specs.Reports.{BeginsTexts}
-use Rattle.script_files.specs.Scripts.{scripts_of}
-use Rattle.script_files.specs.Verdicts.{Fine}
-
--- the usual plan of side 256
-abbrev pub demo_plan : Layout
-demo_plan = record { side = 8; buckets = usual_buckets; cap = 128 }
-
--- all versions are held, and the outputs' names are those of scripts `demo.0` to `demo.3`, and
--- `demo.journal`
-abbrev pub demo_asked : Asked
-demo_asked = record {
-  plan = demo_plan;
-  tint = false;
-  keep = 0;
-  journal = Some (codes "demo.journal");
-  report = None;
-  file = [];
-  scripts = codes "demo.0" ∷ codes "demo.1" ∷ codes "demo.2" ∷ codes "demo.3" ∷ [];
-}
+use Rattle.commands.specs.Scripts.{scripts_of}
+use Rattle.commands.specs.Verdicts.{Fine}
 
 -- the scripts of the load were run with its model, and this is what the run tells and writes. Where
 -- every change was accepted, each region has the cells that its own script's changes alone make

@@ -4,7 +4,7 @@ use Rattle.vw_io.specs.Outputs.{Named}
 use Rattle.vox_read.specs.Contents.{Content}
 use Rattle.history_model.specs.Logs.{Log}
 use Rattle.report.specs.Reports.{IsReport}
-use Rattle.script_files.specs.Orders.{Asked}
+use Rattle.requests.specs.Orders.{Asked}
 use Rattle.script_files.specs.Requests.{RunOutputs, texts_written}
 
 -- the report of a history, where one is wanted

@@ -1,10 +1,11 @@
--- What commands read, and what they write.
-use Rattle.std.specs.Prelude.{ℕ, ◌^◌, Bool, true, false, ◌++◌, ◌∷◌, [], List, map, Option, Some, None, codes}
+-- What a run reads, and what it writes.
+use Rattle.std.specs.Prelude.{ℕ, Bool, true, false, ◌++◌, ◌∷◌, [], List, map, Option, Some, None}
 use Rattle.vw_io.specs.Inputs.{WantedInput}
 use Rattle.vw_io.specs.Outputs.{Named}
 use Rattle.history_model.specs.Journal.{journal_of}
 use Rattle.history_model.specs.Logs.{Log}
-use Rattle.script_files.specs.Orders.{Asked, AuditAsked}
+use Rattle.requests.specs.Orders.{Asked}
+use Rattle.commands.specs.Inputs.{script_input, transcript_name, vox_input}
 use Rattle.transcript.specs.declared.answers.LineAnswer.{LineAnswer}
 use Rattle.transcript.specs.Lines.{transcript_of}
 use Rattle.script.specs.declared.commands.Command.{Command}
@@ -12,8 +13,8 @@ use Rattle.script.specs.declared.commands.Command.TheVariants.{Save}
 use Rattle.script.specs.declared.commands.ScriptLine.{ScriptLine}
 use Rattle.script.specs.Commands.{name_bytes}
 use Rattle.vox_read.specs.Contents.{Content}
-use Rattle.conformance.specs.sessions.Kept.{KeptSave, kept_of, kept_by}
-use Rattle.conformance.specs.sessions.Seen.{SessionSeen}
+use Rattle.conformance.specs.sessions.LoggedSaves.{LoggedSave, logged_of, logged_by}
+use Rattle.conformance.specs.sessions.SessionViews.{SessionView}
 use Rattle.world_run.specs.Open.{file_of_save}
 use Rattle.vw_cell.specs.declared.boxes.Boxed.{Boxed}
 use Rattle.history_model.specs.Moments.{world_has, world_tint}
@@ -22,33 +23,9 @@ use Rattle.history_model.specs.Worlds.{World}
 use Rattle.flood.specs.Saved.{file_of_box}
 use Rattle.script_files.specs.TintFiles.{file_of_tints}
 
--- the most bytes of a VOX file or a file of many versions, and of any other input
-abbrev pub vox_limit : ℕ
-vox_limit = 2 ^ 28
-
-abbrev pub script_limit : ℕ
-script_limit = 2 ^ 23
-
-abbrev pub script_input : List ℕ → WantedInput
-script_input name = record { name = name; limit = script_limit }
-
--- a transcript's name is its script's with `.out` behind it
-abbrev pub transcript_name : List ℕ → List ℕ
-transcript_name script = script ++ codes ".out"
-
--- a VOX file, or a file of many versions
-abbrev pub vox_input : List ℕ → WantedInput
-vox_input name = record { name = name; limit = vox_limit }
-
 -- what a run reads, in order
 abbrev pub run_inputs : Asked → List WantedInput
 run_inputs asked = vox_input asked.file ∷ map script_input asked.scripts
-
--- an audit has the journal between them, and the transcripts behind the scripts
-abbrev pub audit_inputs : AuditAsked → List WantedInput
-audit_inputs asked =
-    vox_input asked.file ∷ script_input asked.journal
-    ∷ (map script_input asked.scripts ++ map script_input (map transcript_name asked.scripts))
 
 -- the name of what is wanted
 abbrev pub wanted_name : Option (List ℕ) → List (List ℕ)
@@ -92,13 +69,13 @@ box_file true b cells tints = file_of_tints b cells tints
 box_file false b cells tints = file_of_box b cells
 
 -- the file of an accepted save: that of its box at its version
-abbrev pub save_file : Bool → List Content → KeptSave → List ℕ
+abbrev pub save_file : Bool → List Content → LoggedSave → List ℕ
 save_file tint models k = box_file tint k.save.part
     (world_has models k.seen.records k.save.version)
     (world_tint models k.seen.records k.save.version)
 
 -- the file of a save, under its name
-abbrev pub saved_output : (KeptSave → List ℕ) → KeptSave → Named
+abbrev pub saved_output : (LoggedSave → List ℕ) → LoggedSave → Named
 saved_output file k = record { name = name_bytes k.save.name; bytes = file k }
 
 -- what sessions have come to: the models, their transcripts, what they saved, and the file of each
@@ -106,16 +83,16 @@ saved_output file k = record { name = name_bytes k.save.name; bytes = file k }
 pub record RunOutputs : Type 0 where
   pub models : List Content
   pub transcripts : List (List LineAnswer)
-  pub kept : List KeptSave
-  pub file : KeptSave → List ℕ
+  pub kept : List LoggedSave
+  pub file : LoggedSave → List ℕ
 
 -- by the cells of the store that each session saw, and by the one history of all
 abbrev pub given_seen : Bool → List Content → List (List ScriptLine) → List (List LineAnswer)
-    → List SessionSeen → RunOutputs
+    → List SessionView → RunOutputs
 given_seen tint models lines transcripts sessions = record {
   models = models;
   transcripts = transcripts;
-  kept = kept_of lines transcripts sessions;
+  kept = logged_of lines transcripts sessions;
   file = file_of_save tint models;
 }
 
@@ -124,7 +101,7 @@ abbrev pub given_by : Bool → List Content → List (List ScriptLine) → Log �
 given_by tint models lines log transcripts = record {
   models = models;
   transcripts = transcripts;
-  kept = kept_by lines transcripts log;
+  kept = logged_by lines transcripts log;
   file = save_file tint models;
 }
 

@@ -1,5 +1,5 @@
 -- What the command `run` tells and writes, or is refused for.
-use Rattle.std.specs.Prelude.{◌≡◌, ℕ, ◌∷◌, [], false, List, length, IsTrue, if◌then◌else◌, Result, Ok, Err, ⊤}
+use Rattle.std.specs.Prelude.{◌≡◌, ℕ, false, List, length, IsTrue, if◌then◌else◌, Result, Ok, Err, ⊤}
 use Rattle.vw_io.specs.Outputs.{Named}
 use Rattle.vw_io.specs.Names.{collide}
 use Rattle.vox_read.specs.Contents.{Content}
@@ -14,15 +14,15 @@ use Rattle.world_run.specs.Ends.{IsEndOf}
 use Rattle.report.specs.Numbers.{IsTotal}
 use Rattle.script_files.specs.declared.tallies.RunWritten.{RunWritten}
 use Rattle.script_files.specs.declared.tallies.Tally.{Tally}
-use Rattle.script_files.specs.declared.refusals.NumberedFault.{NumberedFault}
-use Rattle.script_files.specs.declared.refusals.TextRefused.{TextRefused}
-use Rattle.script_files.specs.declared.refusals.TextRefused.TheVariants.{Vox, Script, Collides, Memory}
-use Rattle.script_files.specs.Meanings.{Meaning, file_in, scripts_in}
-use Rattle.script_files.specs.Orders.{Asked}
+use Rattle.commands.specs.declared.refusals.NumberedFault.{NumberedFault}
+use Rattle.commands.specs.declared.refusals.TextRefused.{TextRefused}
+use Rattle.commands.specs.declared.refusals.TextRefused.TheVariants.{Vox, Script, Collides, Memory}
+use Rattle.commands.specs.Meanings.{Meaning, file_in, scripts_in}
+use Rattle.requests.specs.Orders.{Asked}
 use Rattle.script_files.specs.Requests.{run_inputs, output_names, given_by, texts_written}
 use Rattle.script_files.specs.Reports.{ReportIs, BeginsTexts}
-use Rattle.script_files.specs.Scripts.{lines_asked}
-use Rattle.script_files.specs.Verdicts.{Verdict, Fine, HasScriptFault, NamesCollide, JudgesModels}
+use Rattle.commands.specs.Scripts.{lines_asked}
+use Rattle.commands.specs.Verdicts.{Verdict, Fine, HasScriptFault, NamesCollide, JudgesModels}
 
 -- the names of what a run of these scripts may write are those of no input, and differ
 abbrev pub AreApart : Asked → List (List ScriptLine) → Type 0

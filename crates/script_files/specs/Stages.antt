@@ -1,41 +1,32 @@
 -- What the stages of a command give.
-use Rattle.std.specs.Prelude.{◌≡◌, ◌≤◌, ◌⊎◌, ℕ, Bool, false, List, [], ◌∷◌, ◌++◌, Option, Some, None, Result, Ok, Err, ⊤}
+use Rattle.std.specs.Prelude.{◌≡◌, ◌≤◌, ◌⊎◌, ℕ, false, List, [], ◌∷◌, ◌++◌, Option, Some, None, Result, Ok, Err, ⊤}
 use Rattle.vw_io.specs.Outside.{ShelfState}
-use Rattle.vw_io.specs.Outputs.{Named, AreWritten, StopsWith}
-use Rattle.vox_read.specs.Contents.{Content, cells_of_all}
+use Rattle.vw_io.specs.Outputs.{Named, AreWritten}
+use Rattle.vox_read.specs.Contents.{Content}
 use Rattle.vox_read.specs.Files.{ReadsModels}
 use Rattle.history_model.specs.Journal.{journal_of}
-use Rattle.history_model.specs.Logs.{Log, store_exponent}
-use Rattle.script.specs.declared.commands.ScriptLine.{ScriptLine}
-use Rattle.script.specs.Scripts.{commands_of}
+use Rattle.history_model.specs.Logs.{Log}
 use Rattle.gen_load.specs.Loads.{load_model, load_scripts}
 use Rattle.conformance.specs.sessions.Ran.{ClosesWorld}
 use Rattle.world_run.specs.Closed.{Closed}
 use Rattle.world_run.specs.Closes.{HadHistory}
 use Rattle.world_run.specs.Ends.{IsEndOf}
-use Rattle.world_run.specs.Open.{RunState}
+use Rattle.world_run.specs.Open.{RunState, file_of_save}
 use Rattle.report.specs.Numbers.{AreNumbers}
-use Rattle.report.specs.Roots.{RootsTellWorlds, listed_root}
+use Rattle.report.specs.Roots.{RootsNameWorlds, listed_root}
 use Rattle.world_run.specs.declared.runs.ScriptsRun.{ScriptsRun}
 use Rattle.world_run.specs.declared.endings.WorldRan.{WorldRan}
 use Rattle.script_files.specs.declared.tallies.RunWritten.{RunWritten}
 use Rattle.script_files.specs.declared.tallies.Tally.{Tally}
-use Rattle.script_files.specs.Orders.{Asked}
-use Rattle.script_files.specs.Scripts.{AreFitScripts, lines_asked, scripts_of}
-use Rattle.script_files.specs.declared.refusals.OutputRefused.{OutputRefused}
+use Rattle.requests.specs.Orders.{Asked}
+use Rattle.commands.specs.Scripts.{lines_asked, scripts_of}
+use Rattle.commands.specs.declared.refusals.OutputRefused.{OutputRefused}
 use Rattle.script_files.specs.declared.scripts.Read.{Read}
-use Rattle.script_files.specs.Meanings.{file_in, scripts_in}
+use Rattle.commands.specs.Meanings.{file_in, scripts_in}
 use Rattle.script_files.specs.Runs.{AreApart, TalliesRun}
-use Rattle.script_files.specs.Refusals.{output_name}
+use Rattle.commands.specs.Putting.{StopsAmong}
 use Rattle.script_files.specs.Reports.{ReportIs, BeginsTexts}
-use Rattle.world_run.specs.Open.{file_of_save}
 use Rattle.script_files.specs.Requests.{RunOutputs, written_last, texts_written}
-
--- the bytes give these models, and the number is that of their cells
-pub record CountsFile (bytes : List ℕ) (number : ℕ) : Type 0 where
-  pub models : List Content
-  pub gives : ReadsModels bytes (Ok models)
-  pub counted : number ≡ cells_of_all models
 
 -- the journal's text, where one is asked for
 abbrev pub JournalIs : Option (List ℕ) → List ℕ → List ℕ → Type 0
@@ -75,28 +66,12 @@ pub record AreTexts (asked : Asked) (models : List Content) (log : Log)
   pub journal_is : JournalIs asked.journal written.journal (journal_of log)
   pub report_is : ReportIs asked.report models log written.report
 
--- one more script was read, and its commands stand behind those before it
-pub record ReadsScript (tint : Bool) (side : ℕ) (models : List Content) (text : List ℕ)
-    (old new : List (List ScriptLine)) : Type 0 where
-  pub lines : List ScriptLine
-  pub read : commands_of tint side models text ≡ Ok lines
-  pub kept : new ≡ old ++ lines ∷ []
-  pub fit : AreFitScripts tint (store_exponent tint side) models (lines ∷ [])
-
 -- the model and the commands of a load
 pub record IsLoadRead (n : ℕ) (r : Read) : Type 0 where
   pub models : r.models ≡ load_model n ∷ []
   pub read : scripts_of false 8 (load_model n ∷ []) (load_scripts n) ≡ Ok r.scripts.items
 
 -- ---- what is written
-
--- these outputs were written, or some first ones of them
-abbrev pub Writes : {X : Type 0} → Result X OutputRefused → List Named → ShelfState → ShelfState
-    → Type 0
-Writes (Ok x) outputs old new =
-    AreWritten outputs old.files new.files × (old.faults ≤ new.faults)
-Writes (Err r) outputs old new =
-    StopsWith r.why (output_name r.name) outputs old.files new.files old.faults new.faults
 
 -- the world was closed, the journal and the report were written, and this was told
 pub record WroteHistory (asked : Asked) (r : RunState) (tally : Tally) (closed : Closed)
@@ -119,13 +94,12 @@ pub record StopsClosed (asked : Asked) (r : RunState) (refused : OutputRefused)
   pub rest : List Named
   pub parts : outputs ++ rest ≡ written_last asked closed.history report
   pub reported : rest ≡ [] → ReportIs asked.report r.models closed.history report
-  pub stops : StopsWith refused.why (output_name refused.name) outputs old.files new.files
-      old.faults new.faults
+  pub stops : StopsAmong refused outputs old new
 
 -- what a closed world tells of the run
 pub record TellsClosedRun (r : RunState) (w : WorldRan) : Type 0 where
   pub closes : ClosesRun r w.ended
-  pub roots : RootsTellWorlds r.models w.ended.history (listed_root w.roots.items)
+  pub roots : RootsNameWorlds r.models w.ended.history (listed_root w.roots.items)
   pub numbers : AreNumbers r.models w.ended.history w.numbers.items
 
 abbrev pub WritesClosed : Asked → RunState → Result RunWritten OutputRefused → ShelfState
@@ -136,8 +110,7 @@ WritesClosed asked r (Err refused) old new = StopsClosed asked r refused old new
 -- or it wasn't closed, its sessions had one history, and nothing was written
 pub record StopsOpen (r : RunState) (refused : OutputRefused) (old new : ShelfState) : Type 0 where
   pub had : HadHistory r.tint r.plan r.models r.sessions
-  pub stops : StopsWith refused.why (output_name refused.name) [] old.files new.files old.faults
-      new.faults
+  pub stops : StopsAmong refused [] old new
 
 abbrev pub WritesHistory : Asked → RunState → Result RunWritten OutputRefused → ShelfState
     → ShelfState → Type 0
@@ -167,8 +140,7 @@ pub record StopsRun (asked : Asked) (r : ScriptsRun) (refused : OutputRefused)
     (old new : ShelfState) : Type 0 where
   pub outputs : List Named
   pub begins : BeginsRun asked r outputs
-  pub stops : StopsWith refused.why (output_name refused.name) outputs old.files new.files
-      old.faults new.faults
+  pub stops : StopsAmong refused outputs old new
 
 abbrev pub WritesRun : Asked → ScriptsRun → Result RunWritten OutputRefused → ShelfState
     → ShelfState → Type 0

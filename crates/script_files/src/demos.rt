@@ -1,22 +1,22 @@
-ghost use Rattle.std.specs.Prelude.{◌≡◌, ◌≤◌, false, length, map, string_bytes, IfOk, IfErr};
+ghost use Rattle.std.specs.Prelude.{◌≡◌, ◌≤◌, false, length, map, string_bytes, IfOk};
 ghost use Rattle.vox_read.specs.Contents.{AreModels};
-ghost use Rattle.script_files.specs.Requests.{transcript_name};
-ghost use Rattle.text_laws.specs.regions.LastCounts.{count_told, last_count, region_counts};
-ghost use Rattle.script_files.specs.Demos.{demo_asked, demo_means};
-ghost use Rattle.script_files.specs.Outcomes.{Outcome};
-ghost use Rattle.script_files.specs.Refusals.{HasOutputName};
-ghost use Rattle.script_files.specs.Scripts.{AreFitScripts};
+ghost use Rattle.commands.specs.Inputs.{transcript_name};
+ghost use Rattle.text_laws.specs.regions.LastCounts.{count_in_answer, last_count, region_counts};
+ghost use Rattle.requests.specs.ScriptNames.{demo_asked};
+ghost use Rattle.script_files.specs.Demos.{demo_means};
+ghost use Rattle.commands.specs.Outcomes.{Outcome};
+ghost use Rattle.commands.specs.Scripts.{AreFitScripts};
 ghost use Rattle.script_files.specs.Stages.{IsLoadRead};
 
 use crate::outputs::write_run;
-use crate::refusals::{CommandRefused, TextRefused};
-use crate::requests::{Order, VOX_LIMIT};
-use crate::scripts::{Read, read_scripts};
+use crate::scripts::Read;
 use crate::tallies::{LoadTally, LoadWritten};
+use commands::{CommandRefused, TextRefused, VOX_LIMIT, read_scripts};
 use conformance::Transcript;
 use gate_run::Gate;
 use gen_load::load;
 use node_words::Plan;
+use requests::Order;
 use std::alloc::Global;
 use std::sync::Wait;
 use std::thread::Threads;
@@ -31,7 +31,7 @@ static SCRIPTS: [&str; 4] = ["demo.0", "demo.1", "demo.2", "demo.3"];
 
 /// How the store of a load's run is laid out, that all versions are held, and what the outputs are
 /// named after.
-pub fn demo_order<'w>() -> Order<'w>
+pub(crate) fn demo_order<'w>() -> Order<'w>
     ensures { result ≡ demo_asked }
 {
     Order {
@@ -64,25 +64,25 @@ pub fn run_demo<'w, S: Shelf, R: Threads + Wait + Sync, G: Gate + Sync>(
     gate: &G,
     alloc: Global,
     n: u32,
-    transcripts: &'w [String],
+    transcripts: &[String],
     shelf: &mut S,
 ) -> Result<LoadWritten, CommandRefused<'w>>
     requires { map string_bytes transcripts.now ≡ map transcript_name demo_asked.scripts }
     ensures outcome { Outcome (demo_means n) result (S.state shelf.old) (S.state shelf.new) }
-    ensures named { IfErr result HasOutputName }
 {
     loads_are_counted();
     let order = demo_order();
     let Ok(read) = made_load(alloc, n) else {
         return Err(CommandRefused::Text(TextRefused::Memory));
     };
+    let Read { models, scripts } = read;
     let Ok(run) = run_scripts(
         rt,
         gate,
         alloc,
         &order.plan,
-        &read.models,
-        read.scripts.as_slice(),
+        models,
+        scripts.as_slice(),
         Settings {
             tint: order.tint,
             keep: order.keep,
@@ -119,12 +119,12 @@ fn last_count(transcript: &Transcript) -> u64
 {
     match transcript.lines.last() {
         None => 0,
-        Some(line) => count_told(line.answer),
+        Some(line) => count_in_answer(line.answer),
     }
 }
 
-fn count_told(answer: Answer) -> u64
-    ensures { result ≡ count_told answer }
+fn count_in_answer(answer: Answer) -> u64
+    ensures { result ≡ count_in_answer answer }
 {
     match answer {
         Answer::Count(cells) => cells,

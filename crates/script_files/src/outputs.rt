@@ -1,39 +1,38 @@
 //! What a run writes, one output after the other. Saved files are made one at a time.
-ghost use Rattle.std.specs.Prelude.{◌≡◌, ◌≤◌, ◌<◌, ◌++◌, All, length, map, take, drop, string_bytes, IfOk, IfErr, OnOk};
+ghost use Rattle.std.specs.Prelude.{◌≡◌, ◌≤◌, ◌<◌, ◌++◌, All, length, map, take, drop, string_bytes, IfOk, OnOk};
 ghost use Rattle.std.specs.Option.{option_map};
 ghost use Rattle.transcript.specs.Lines.{transcript_of};
-ghost use Rattle.script_files.specs.Refusals.{IsOutputName};
-ghost use Rattle.world_run.specs.Open.{file_of_save};
-ghost use Rattle.script_files.specs.Requests.{named_texts, saved_output, transcript_name, wanted_output};
-ghost use Rattle.world_run.specs.Open.{RunState};
-ghost use Rattle.script_files.specs.Stages.{TellsClosedRun, Writes, WritesClosed, WritesHistory, WritesRun};
+ghost use Rattle.world_run.specs.Open.{file_of_save, RunState};
+ghost use Rattle.script_files.specs.Requests.{named_texts, saved_output, wanted_output};
+ghost use Rattle.commands.specs.Inputs.{transcript_name};
+ghost use Rattle.commands.specs.Putting.{Writes};
+ghost use Rattle.script_files.specs.Stages.{TellsClosedRun, WritesClosed, WritesHistory, WritesRun};
 
-use crate::refusals::{OutputName, OutputRefused};
-use crate::requests::Order;
 use crate::tallies::RunWritten;
 use crate::texts::{Lines, Texts, history_texts, transcript_texts};
+use commands::{OutputRefused, put_out};
 use conformance::Transcript;
+use requests::Order;
 use std::alloc::Global;
 use std::sync::Wait;
 use vw_cell::Memory;
-use vw_io::{Output, Shelf, write_all};
+use vw_io::{Output, Shelf};
 use world_run::{OpenRun, ScriptsRun, WorldRan};
 
 /// Writes the transcripts under these names, then the saved files, and then the journal and the
 /// report where they are asked for. What is saved is held until its files are written; then the
 /// world is closed.
-pub(crate) fn write_run<'w, S: Shelf, R: Wait>(
+pub(crate) fn write_run<S: Shelf, R: Wait>(
     rt: &R,
     alloc: Global,
-    order: &Order<'w>,
-    names: &'w [String],
-    run: ScriptsRun<'_>,
+    order: &Order<'_>,
+    names: &[String],
+    run: ScriptsRun,
     shelf: &mut S,
-) -> Result<RunWritten, OutputRefused<'w>>
+) -> Result<RunWritten, OutputRefused>
     requires named { map string_bytes names.now ≡ map transcript_name order.now.scripts }
-    ensures writes { WritesRun order.now run.entry result (S.state shelf.old)
+    ensures writes { WritesRun order.now run result (S.state shelf.old)
         (S.state shelf.new) }
-    ensures named { IfErr result (λ refused. IsOutputName refused.name) }
 {
     let ScriptsRun { run, transcripts } = run;
     let mut run = run;
@@ -49,35 +48,38 @@ pub(crate) fn write_run<'w, S: Shelf, R: Wait>(
 }
 
 // Writes the text of each transcript under its name.
-fn write_transcripts<'w, S: Shelf>(
+#[tactic(auto, using(commands::proofs::Putting::at_once))]
+fn write_transcripts<S: Shelf>(
     alloc: Global,
-    names: &'w [String],
+    names: &[String],
     transcripts: Vec<Transcript>,
     shelf: &mut S,
-) -> Result<(), OutputRefused<'w>>
+) -> Result<(), OutputRefused>
     ensures writes { Writes result
         (named_texts (map string_bytes names.now) (map transcript_of transcripts.items))
         (S.state shelf.old) (S.state shelf.new) }
-    ensures named { IfErr result (λ refused. IsOutputName refused.name) }
 {
-    let texts = transcript_texts(alloc, transcripts.as_slice())?;
+    let Ok(texts) = transcript_texts(alloc, transcripts.as_slice()) else {
+        return Err(OutputRefused::Memory);
+    };
     drop(transcripts);
     let mut outputs = Vec::new(alloc);
-    add_transcripts(names, texts.as_slice(), &mut outputs)?;
-    Ok(write_all(outputs.as_slice(), shelf)?)
+    if let Err(_) = add_transcripts(names, texts.as_slice(), &mut outputs) {
+        return Err(OutputRefused::Memory);
+    }
+    put_out(alloc, outputs.as_slice(), shelf)
 }
 
 // Makes and writes the file of each accepted save, one after the other.
-fn write_saves<'w, S: Shelf>(
+fn write_saves<S: Shelf>(
     alloc: Global,
-    run: &mut OpenRun<'_>,
+    run: &mut OpenRun,
     shelf: &mut S,
-) -> Result<(), OutputRefused<'w>>
+) -> Result<(), OutputRefused>
     ensures writes { Writes result
         (map (saved_output (file_of_save run.old.tint run.old.models)) run.old.kept)
         (S.state shelf.old) (S.state shelf.new) }
     ensures same { run.new ≡ run.old }
-    ensures named { IfErr result (λ refused. IsOutputName refused.name) }
 {
     for k in 0..run.saves() {
         if let Err(refused) = write_save(alloc, run, k, shelf) {
@@ -88,56 +90,55 @@ fn write_saves<'w, S: Shelf>(
 }
 
 // Makes and writes the file of the save of this number.
-fn write_save<'w, S: Shelf>(
+#[tactic(auto, using(commands::proofs::Putting::at_once))]
+fn write_save<S: Shelf>(
     alloc: Global,
-    run: &mut OpenRun<'_>,
+    run: &mut OpenRun,
     k: usize,
     shelf: &mut S,
-) -> Result<(), OutputRefused<'w>>
+) -> Result<(), OutputRefused>
     requires { k < length run.old.kept }
     ensures writes { Writes result
         (take 1 (drop k
         (map (saved_output (file_of_save run.old.tint run.old.models)) run.old.kept)))
         (S.state shelf.old) (S.state shelf.new) }
     ensures same { run.new ≡ run.old }
-    ensures named { IfErr result (λ refused. IsOutputName refused.name) }
 {
     let save = run.save(k);
-    let file = run.file(alloc, k)?;
-    match shelf.write(save.name.as_str(), file.as_slice()) {
-        Ok(()) => Ok(()),
-        Err(why) => Err(OutputRefused {
-            name: OutputName::Saved(save.name),
-            why,
-        }),
-    }
+    let Ok(file) = run.file(alloc, k) else {
+        return Err(OutputRefused::Memory);
+    };
+    let outputs = [Output {
+        name: save.name.as_str(),
+        bytes: file.as_slice(),
+    }];
+    put_out(alloc, &outputs, shelf)
 }
 
 // Closes the world, and writes the journal and the report where they are asked for.
-fn write_history<'w, S: Shelf, R: Wait>(
+fn write_history<S: Shelf, R: Wait>(
     rt: &R,
     alloc: Global,
-    order: &Order<'w>,
-    run: OpenRun<'_>,
+    order: &Order<'_>,
+    run: OpenRun,
     shelf: &mut S,
-) -> Result<RunWritten, OutputRefused<'w>>
-    ensures writes { WritesHistory order.now run.entry result (S.state shelf.old)
+) -> Result<RunWritten, OutputRefused>
+    ensures writes { WritesHistory order.now run result (S.state shelf.old)
         (S.state shelf.new) }
-    ensures named { IfErr result (λ refused. IsOutputName refused.name) }
 {
     let Ok(ran) = run.close(rt, alloc) else {
-        return Err(OutputRefused::from(Memory));
+        return Err(OutputRefused::Memory);
     };
     write_closed(alloc, order, ran, shelf)
 }
 
 // Writes the journal and the report of a closed world, where they are asked for.
-fn write_closed<'w, S: Shelf>(
+fn write_closed<S: Shelf>(
     alloc: Global,
-    order: &Order<'w>,
+    order: &Order<'_>,
     ran: WorldRan,
     shelf: &mut S,
-) -> Result<RunWritten, OutputRefused<'w>>
+) -> Result<RunWritten, OutputRefused>
     requires few { length ran.ended.history.records ≤ 65535 }
     requires marks { All (λ m. m.version ≤ length ran.ended.history.records)
         ran.ended.history.marks }
@@ -145,15 +146,14 @@ fn write_closed<'w, S: Shelf>(
     requires levels { length ran.numbers.items ≤ 11 }
     ensures writes { (r : RunState) → TellsClosedRun r ran → WritesClosed order.now r result
         (S.state shelf.old) (S.state shelf.new) }
-    ensures named { IfErr result (λ refused. IsOutputName refused.name) }
 {
     let Ok(texts) = history_texts(alloc, order, &ran) else {
-        return Err(OutputRefused::from(Memory));
+        return Err(OutputRefused::Memory);
     };
     let Ok(outputs) = last_outputs(alloc, order, &texts) else {
-        return Err(OutputRefused::from(Memory));
+        return Err(OutputRefused::Memory);
     };
-    match write_all(outputs.as_slice(), shelf) {
+    match put_out(alloc, outputs.as_slice(), shelf) {
         Ok(()) => {
             let WorldRan { ended, .. } = ran;
             Ok(RunWritten {
@@ -161,7 +161,7 @@ fn write_closed<'w, S: Shelf>(
                 ended,
             })
         }
-        Err(refused) => Err(OutputRefused::from(refused)),
+        Err(refused) => Err(refused),
     }
 }
 

@@ -1,15 +1,15 @@
-ghost use Rattle.std.specs.Prelude.{◌≡◌, ◌≤◌, length, map, string_bytes, IfOk, IfErr};
-ghost use Rattle.script_files.specs.Requests.{run_inputs, transcript_name};
+ghost use Rattle.std.specs.Prelude.{◌≡◌, ◌≤◌, length, map, string_bytes, IfOk};
+ghost use Rattle.script_files.specs.Requests.{run_inputs};
+ghost use Rattle.commands.specs.Inputs.{transcript_name};
 ghost use Rattle.script_files.specs.Runs.{run_means};
-ghost use Rattle.script_files.specs.Outcomes.{Outcome};
-ghost use Rattle.script_files.specs.Refusals.{HasOutputName};
+ghost use Rattle.commands.specs.Outcomes.{Outcome};
 
 use crate::outputs::write_run;
-use crate::refusals::{CommandRefused, TextRefused};
-use crate::requests::{Order, SCRIPT_LIMIT, VOX_LIMIT};
-use crate::scripts::read_texts;
+use crate::scripts::{Read, read_texts};
 use crate::tallies::RunWritten;
+use commands::{CommandRefused, SCRIPT_LIMIT, TextRefused, VOX_LIMIT};
 use gate_run::Gate;
+use requests::Order;
 use std::alloc::Global;
 use std::sync::Wait;
 use std::thread::Threads;
@@ -26,20 +26,19 @@ use world_run::{Settings, run_scripts};
 /// as it falls out. Then it writes the transcripts under their names, which are those of the
 /// scripts with `.out` behind them, and the files that were saved, each made when it is its turn;
 /// it closes the world, and writes the journal and the report where they are asked for.
-#[tactic(auto, using(crate::proofs::Accepting::file_within, crate::proofs::Ending::run_refused, crate::proofs::Ending::run_written, crate::proofs::Ending::run_stopped))]
+#[tactic(auto, using(commands::proofs::Accepting::file_within, crate::proofs::Ending::run_refused, crate::proofs::Ending::run_written, crate::proofs::Ending::run_stopped))]
 pub fn run_files<'w, S: Shelf, R: Threads + Wait + Sync, G: Gate + Sync>(
     rt: &R,
     gate: &G,
     alloc: Global,
     order: &Order<'w>,
-    transcripts: &'w [String],
+    transcripts: &[String],
     shelf: &mut S,
 ) -> Result<RunWritten, CommandRefused<'w>>
     requires few { length order.now.scripts ≤ 64 }
     requires named { map string_bytes transcripts.now ≡ map transcript_name order.now.scripts }
     ensures outcome { Outcome (run_means order.now) result (S.state shelf.old)
         (S.state shelf.new) }
-    ensures named { IfErr result HasOutputName }
 {
     let Ok(inputs) = run_inputs(alloc, order) else {
         return Err(CommandRefused::Text(TextRefused::Memory));
@@ -52,13 +51,14 @@ pub fn run_files<'w, S: Shelf, R: Threads + Wait + Sync, G: Gate + Sync>(
         Ok(read) => read,
         Err(refused) => return Err(CommandRefused::Text(refused)),
     };
+    let Read { models, scripts } = read;
     let Ok(run) = run_scripts(
         rt,
         gate,
         alloc,
         &order.plan,
-        &read.models,
-        read.scripts.as_slice(),
+        models,
+        scripts.as_slice(),
         Settings {
             tint: order.tint,
             keep: order.keep,

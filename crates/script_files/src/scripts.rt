@@ -1,20 +1,19 @@
-ghost use Rattle.std.specs.Prelude.{◌≡◌, ◌≤◌, ◌^◌, ◌+◌, ◌<◌, ◌++◌, true, Ok, All, length, map, string_bytes, IfOk, IfErr, OnOk};
+ghost use Rattle.std.specs.Prelude.{◌≡◌, ◌≤◌, ◌^◌, ◌+◌, ◌<◌, ◌++◌, true, Ok, All, length, map, string_bytes, IfOk, IfErr, IfSome, OnOk};
 ghost use Rattle.std.specs.Option.{option_map};
 ghost use Rattle.vw_io.specs.Names.{collide};
 ghost use Rattle.vox_read.specs.Contents.{AreModels};
 ghost use Rattle.history_model.specs.Logs.{store_exponent};
-ghost use Rattle.script.specs.Fitting.{CommandFits, RisesFrom};
+ghost use Rattle.requests.specs.Orders.{asked_side};
 ghost use Rattle.script_files.specs.Runs.{RefusesRun};
-ghost use Rattle.script_files.specs.Requests.{run_inputs, output_names, transcript_name, wanted_name, name_saved, names_saved_in, names_saved};
-ghost use Rattle.script_files.specs.Meanings.{file_in};
-ghost use Rattle.script_files.specs.Refusals.{RefusesScripts};
-ghost use Rattle.script.specs.Scripts.{commands_of};
-ghost use Rattle.script_files.specs.Scripts.{scripts_of, in_script, HasFileName, AreFitScripts};
-ghost use Rattle.script_files.specs.Stages.{ReadsInputs, ReadsScript};
+ghost use Rattle.script_files.specs.Requests.{run_inputs, output_names, wanted_name, name_saved, names_saved_in, names_saved};
+ghost use Rattle.commands.specs.Inputs.{transcript_name};
+ghost use Rattle.commands.specs.Meanings.{file_in};
+ghost use Rattle.commands.specs.Scripts.{HasFileName, AreFitScripts};
+ghost use Rattle.script_files.specs.Stages.{ReadsInputs};
 
-use crate::refusals::{NumberedFault, TextRefused};
-use crate::requests::Order;
-use script::{Command, Script, ScriptLine, read_script};
+use commands::{TextRefused, read_scripts, world_kept};
+use requests::Order;
+use script::{Command, Script, ScriptLine};
 use std::alloc::Global;
 use std::convert::AsSlice;
 use vox_read::{Models, read_models};
@@ -30,7 +29,7 @@ pub(crate) struct Read {
 
 // The models and the commands, where the VOX file gives models, no script has a fault, and no name
 // of an output is taken. The texts are given back once they are read.
-#[tactic(auto, using(crate::proofs::Refusing::scripts_refused_by, crate::proofs::WorldSides::read_by, crate::proofs::WorldSides::fit_by))]
+#[tactic(auto, using(crate::proofs::RunTexts::scripts_refused_by, crate::proofs::RunTexts::read_by, commands::proofs::WorldSides::fit_by))]
 pub(crate) fn read_texts(
     alloc: Global,
     order: &Order<'_>,
@@ -56,7 +55,7 @@ pub(crate) fn read_texts(
     let file = texts.remove(0);
     let models = read_models(alloc, file.as_slice())?;
     drop(file);
-    let Some(side) = order.world_side() else {
+    let Some(side) = world_side(order) else {
         return Err(TextRefused::Memory);
     };
     let scripts = read_scripts(alloc, texts.as_slice(), side, &models, order.tint)?;
@@ -65,6 +64,15 @@ pub(crate) fn read_texts(
         return Err(TextRefused::Collides);
     }
     Ok(Read { models, scripts })
+}
+
+// The side of the run's world.
+fn world_side(order: &Order<'_>) -> Option<Side>
+    ensures side { IfSome result (λ s. s ≡ asked_side order.now) }
+    ensures kept { IfSome result (λ s. store_exponent order.now.tint s ≡ order.now.plan.side) }
+    ensures large { IfSome result (λ s. order.now.tint ≡ true → 4 ≤ order.now.plan.side) }
+{
+    world_kept(order.plan.side(), order.tint)
 }
 
 // Whether a name of what a run of these scripts may write is an input's, or another one of them.
@@ -153,62 +161,4 @@ fn add_save<'a>(line: &'a ScriptLine, names: &mut Vec<&'a str>) -> Result<(), Me
         names.push(name.as_str())?;
     }
     Ok(())
-}
-
-// The commands of all scripts, or the first fault of the first that has one.
-pub(crate) fn read_scripts<T: AsSlice<u8>>(
-    alloc: Global,
-    texts: &[T],
-    side: Side,
-    models: &Models,
-    tint: bool,
-) -> Result<Vec<Script>, TextRefused>
-    requires models { AreModels models.now }
-    requires few { length texts.now ≤ 64 }
-    ensures read { IfOk result
-        (λ scripts. scripts_of tint side models.now (map T.items texts.now) ≡ Ok scripts.items) }
-    ensures refused { IfErr result (λ refused.
-        RefusesScripts refused (scripts_of tint side models.now (map T.items texts.now))) }
-    ensures number { IfOk result (λ scripts. length scripts.items ≡ length texts.now) }
-    ensures fit { IfOk result
-        (λ scripts. AreFitScripts tint (store_exponent tint side) models.now scripts.items) }
-{
-    let mut scripts = Vec::new(alloc);
-    for text in texts {
-        read_next(alloc, text.as_slice(), side, models, tint, &mut scripts)?;
-    }
-    Ok(scripts)
-}
-
-// Reads one more script, whose number is that of the scripts before it.
-#[tactic(auto, using(crate::proofs::Refusing::script_refused))]
-fn read_next(
-    alloc: Global,
-    text: &[u8],
-    side: Side,
-    models: &Models,
-    tint: bool,
-    scripts: &mut Vec<Script>,
-) -> Result<(), TextRefused>
-    requires models { AreModels models.now }
-    requires few { length scripts.old.items < 64 }
-    ensures read { OnOk result (ReadsScript tint side models.now text.now
-        scripts.old.items scripts.new.items) }
-    ensures refused { IfErr result (λ refused. RefusesScripts refused (in_script
-        (length scripts.old.items) (commands_of tint side models.now text.now))) }
-{
-    let number = scripts.len() as u16;
-    let script = match read_script(alloc, text, side, models, tint) {
-        Ok(script) => script,
-        Err(fault) => {
-            return Err(TextRefused::from(NumberedFault {
-                script: number,
-                fault,
-            }));
-        }
-    };
-    match scripts.push(script) {
-        Ok(()) => Ok(()),
-        Err(_) => Err(TextRefused::Memory),
-    }
 }

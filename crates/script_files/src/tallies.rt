@@ -1,3 +1,4 @@
+use commands::SceneTally;
 use transcript::Answer;
 use world_run::Ended;
 
@@ -58,12 +59,4 @@ pub struct LoadTally {
     pub number: u32,
     pub records: u64,
     pub counts: [u64; 4],
-}
-
-/// How many cells the side of the least world has that holds a scene, and how many models stand in
-/// it.
-#[derive(Clone, Copy, Debug, PartialEq, Eq)]
-pub struct SceneTally {
-    pub side: u32,
-    pub placements: u64,
 }

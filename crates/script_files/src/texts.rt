@@ -3,17 +3,17 @@ ghost use Rattle.std.specs.List.{sum};
 ghost use Rattle.vox_read.specs.Contents.{Content};
 ghost use Rattle.history_model.specs.Journal.{journal_of};
 ghost use Rattle.report.specs.Numbers.{AreNumbers};
-ghost use Rattle.report.specs.Roots.{RootsTellWorlds, listed_root};
+ghost use Rattle.report.specs.Roots.{RootsNameWorlds, listed_root};
 ghost use Rattle.transcript.specs.Lines.{transcript_of};
 ghost use Rattle.script_files.specs.Reports.{ReportIs};
 ghost use Rattle.script_files.specs.Stages.{JournalIs, AreTexts};
 
-use crate::requests::Order;
 use crate::tallies::Tally;
 use conformance::Transcript;
 use history_model::{History, journal_text};
 use node_words::Name;
 use report::report_text;
+use requests::Order;
 use std::alloc::Global;
 use std::marker::Model;
 use transcript::transcript_text;
@@ -64,7 +64,7 @@ pub(crate) fn history_texts(
     requires places { length ran.now.ended.history.records < length ran.now.roots.items }
     requires levels { length ran.now.numbers.items ≤ 11 }
     ensures { IfOk result (λ texts. (models : List Content)
-        → RootsTellWorlds models ran.now.ended.history (listed_root ran.now.roots.items)
+        → RootsNameWorlds models ran.now.ended.history (listed_root ran.now.roots.items)
         → AreNumbers models ran.now.ended.history ran.now.numbers.items
         → AreTexts order.now models ran.now.ended.history texts) }
 {
@@ -120,7 +120,7 @@ fn asked_report(
     requires marks { All (λ m. m.version ≤ length history.now.records) history.now.marks }
     requires places { length history.now.records < length roots.now }
     ensures { IfOk result (λ text. (models : List Content)
-        → RootsTellWorlds models history.now (listed_root roots.now)
+        → RootsNameWorlds models history.now (listed_root roots.now)
         → AreNumbers models history.now numbers.now
         → ReportIs order.now.report models history.now text.items) }
 {

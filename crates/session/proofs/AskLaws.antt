@@ -10,31 +10,30 @@ use Rattle.node_words.specs.declared.shapes.names.Name.{Name}
 use Rattle.node_words.specs.shapes.Tree.{Tree, Gone, LeafAt, NodeAt, root_of}
 use Rattle.node_words.specs.shapes.Weights.{number_of_trees}
 use Rattle.node_words.specs.Gathering.{MayHold}
-use Rattle.node_words.specs.Held.{IsHeld, OnlyHeldChanges, Seen}
+use Rattle.node_words.specs.Held.{IsHeld, OnlyHeldChanges, StoreState}
 use Rattle.node_words.specs.descent.Roots as walks
 use Rattle.edit_walk.specs.cells.Worlds.{ShowsWorld}
 use Rattle.conformance.specs.Answers.{asked_version}
 use Rattle.conformance.specs.Kinds.{is_resting}
-use Rattle.act_rebuilds.specs.questions.TellsRoots.{TellsTinted}
-use Rattle.table_rule.specs.LogTelling.{seen_has}
+use Rattle.act_rebuilds.specs.questions.AnswersByRoots.{AnswersByTints}
+use Rattle.table_rule.specs.LogFacts.{seen_has}
 use Rattle.table_rule.specs.Views.{SeatView, seen_of}
 use Rattle.version_log.specs.Pins.{PinsVersion, version_asked}
 use Rattle.version_log.specs.Roots.{GetsRoot, HoldsRootOf}
-use Rattle.version_log.specs.Seeing.{LooksOn}
+use Rattle.version_log.specs.Seeing.{OnlyReadsLog}
 use Rattle.version_log.specs.Pins.{RefusesPin}
 use Rattle.version_log.specs.declared.answers.Pinned.{Pinned}
 use Rattle.retain.specs.declared.refusals.PinRefused.{PinRefused}
 use Rattle.retain.specs.declared.refusals.PinRefused.TheVariants.{NoVersion, Forgotten}
 use Rattle.conformance.specs.sessions.Calls.{FindsVersion}
-use Rattle.conformance.specs.sessions.Seen.{SessionSeen}
-use Rattle.conformance.specs.sessions.Told.{WasAsked, PinIsRefused, TellsKept, plainly_tinted}
-use Rattle.hands.specs.Lendable.{StaysLendable}
+use Rattle.conformance.specs.sessions.SessionViews.{SessionView}
+use Rattle.conformance.specs.sessions.CallSpecs.{WasAsked, PinIsRefused, AnswersStored, plainly_tinted}
+use Rattle.session.specs.Lendable.{StaysLendable}
 use Rattle.node_words.specs.Plans.{Layout}
-use Rattle.table_rule.specs.LogViews.{LogView}
-use Rattle.node_table.specs.Seen.{TableSeen, PassSeen}
+use Rattle.node_table.specs.TableStates.{TableState, PassState}
 use Rattle.session.specs.Resting.{IsAtRest}
-use Rattle.session.specs.Roots.{TellsHeld}
-use Rattle.session.specs.Seen.{WorldSeen, of_world, session_seen}
+use Rattle.session.specs.Roots.{AnswersHeld}
+use Rattle.session.specs.SessionWorlds.{SessionWorld, of_world, session_view}
 use Rattle.session.proofs.ForgetLaws.{same_seen}
 use Rattle.session.proofs.SameLaws.{finds}
 use Rattle.session.proofs.SeenLaws.{models_stay, only_sees}
@@ -85,17 +84,17 @@ shows_world v root cells h = record {
 
 -- what is told of tints by a store that holds the same
 pub tints_told : (more held : List Tree) (n side : ℕ) (root : Option Name) (question : Question)
-    (answer : Answer) → TellsTinted more n root question answer → more ≡ held → n ≡ side
-    → TellsTinted held side root question answer
+    (answer : Answer) → AnswersByTints more n root question answer → more ≡ held → n ≡ side
+    → AnswersByTints held side root question answer
 tints_told more held n side root question answer told same is =
-    subst (λ (k : ℕ). TellsTinted held k root question answer) is
-    (subst (λ (ts : List Tree). TellsTinted ts n root question answer) same told)
+    subst (λ (k : ℕ). AnswersByTints held k root question answer) is
+    (subst (λ (ts : List Tree). AnswersByTints ts n root question answer) same told)
 
 -- what is told of a root is told of the world that the cells keep which it shows
 pub kept_told : (tint : Bool) (held : List Tree) (side : ℕ) (root : Option Name) (cells : World)
     (question : Question) (answer : Answer) → ShowsWorld held (side - 2) root cells
-    → TellsHeld tint held side root question answer
-    → TellsKept tint (2 ^ side) cells question answer
+    → AnswersHeld tint held side root question answer
+    → AnswersStored tint (2 ^ side) cells question answer
 kept_told false held side root cells question answer shows told =
     told cells (plainly_tinted cells) shows (λ c inside. refl)
 kept_told true held side root cells question answer shows told =
@@ -106,9 +105,9 @@ asked_as None n = refl
 asked_as (Some version) n = refl
 
 -- why nothing is told
-pub refused : (asked : Option ℕ) (v w : SeatView) (e : PinRefused) → LooksOn v w
+pub refused : (asked : Option ℕ) (v w : SeatView) (e : PinRefused) → OnlyReadsLog v w
     → RefusesPin asked e w
-    → PinIsRefused asked (session_seen v) (session_seen w) e
+    → PinIsRefused asked (session_view v) (session_view w) e
 refused None v w (NoVersion at) looks is = absurd (let l = is.1 in omega arith)
 refused (Some u) v w (NoVersion at) looks is =
     record { at_is = is.0; only = only_sees v w looks; named = u; is = refl; over = is.1 }
@@ -128,13 +127,13 @@ pub few_pinned : (v w : SeatView) (x : SeatView) (root : Option Name) → GetsRo
 few_pinned v w x root gains same few =
     let e = gains.loses.weighs (λ _. 1) in
     let one = weight_of-one gains.tree in
-    let held = ap (λ (s : Seen). number_of_trees s.held) same in
+    let held = ap (λ (s : StoreState). number_of_trees s.held) same in
     omega arith
 
-module _ (t : WorldSeen) (number : ℕ) (asked : Option ℕ) (question : Question) (v w : PassSeen)
-    (p : Pinned) (answer : Answer) (r : IsAtRest t.table v) (looks : LooksOn v.view w.view)
+module _ (t : SessionWorld) (number : ℕ) (asked : Option ℕ) (question : Question) (v w : PassState)
+    (p : Pinned) (answer : Answer) (r : IsAtRest t.table v) (looks : OnlyReadsLog v.view w.view)
     (is : PinsVersion v.view asked p w.view) (root : Option Name) (same : root ≡ p.root)
-    (tells : TellsHeld t.tint w.view.held t.table.plan.side root question answer)
+    (tells : AnswersHeld t.tint w.view.held t.table.plan.side root question answer)
     (resting : is_resting answer ≡ true) where
   version_is : p.version ≡ asked_version asked p.moment
   version_is = is.version ∙ asked_as asked p.moment
@@ -142,7 +141,7 @@ module _ (t : WorldSeen) (number : ℕ) (asked : Option ℕ) (question : Questio
   plan_side : w.view.plan.side ≡ t.table.plan.side
   plan_side = ap (λ (l : Layout). l.side) (looks.session.plan ∙ r.of.plan)
 
-  tells_version : TellsKept t.tint (2 ^ t.table.plan.side) (seen_has w.view p.version) question
+  tells_version : AnswersStored t.tint (2 ^ t.table.plan.side) (seen_has w.view p.version) question
       answer
   tells_version =
       kept_told t.tint w.view.held t.table.plan.side p.root
@@ -150,25 +149,25 @@ module _ (t : WorldSeen) (number : ℕ) (asked : Option ℕ) (question : Questio
       (subst (λ (n : ℕ). ShowsWorld w.view.held (n - 2) p.root
       (seen_has w.view p.version)) plan_side
       (shows_world w.view p.root (seen_has w.view p.version) is.pinned.root))
-      (subst (λ (x : Option Name). TellsHeld t.tint w.view.held t.table.plan.side x question answer)
+      (subst (λ (x : Option Name). AnswersHeld t.tint w.view.held t.table.plan.side x question answer)
       same tells)
 
   -- the answer tells of these cells, in a world of this side
   abbrev tells_so : ℕ → World → Type 0
-  tells_so side cells = TellsKept t.tint (2 ^ side) cells question answer
+  tells_so side cells = AnswersStored t.tint (2 ^ side) cells question answer
 
   -- the cells of the version that was asked, in a store of this side, by these models
   abbrev cells_by : ℕ → List Content → World
   cells_by side models =
       stored_in (2 ^ side) models w.view.log.seen.records (asked_version asked p.moment)
 
-  asked_here : WasAsked (of_world t number) asked question (session_seen v.view)
-      (session_seen w.view)
+  asked_here : WasAsked (of_world t number) asked question (session_view v.view)
+      (session_view w.view)
       (record { at = p.moment; answer = answer })
   asked_here = record {
     at_is = is.moment;
     only = only_sees v.view w.view looks;
-    finds = subst (λ (u : ℕ). FindsVersion (session_seen w.view) u) version_is
+    finds = subst (λ (u : ℕ). FindsVersion (session_view w.view) u) version_is
         (finds w.view p.version p.moment is.moment (record {
           there = is.pinned.version;
           unmarked = is.unmarked;
@@ -184,20 +183,20 @@ module _ (t : WorldSeen) (number : ℕ) (asked : Option ℕ) (question : Questio
     rests = resting;
   }
 
-  pub asked_told : (x z : PassSeen) → StaysLendable t.table w x → seen_of x.view ≡ seen_of w.view
+  pub asked_told : (x z : PassState) → StaysLendable t.table w x → seen_of x.view ≡ seen_of w.view
       → StaysLendable t.table x z → OnlyHeldChanges (seen_of x.view) (seen_of z.view)
-      → WasAsked (of_world t number) asked question (session_seen v.view) (session_seen z.view)
+      → WasAsked (of_world t number) asked question (session_view v.view) (session_view z.view)
       (record { at = p.moment; answer = answer })
   asked_told x z read seen back only =
-      subst (λ (s : SessionSeen). WasAsked (of_world t number) asked question
-      (session_seen v.view) s
+      subst (λ (s : SessionView). WasAsked (of_world t number) asked question
+      (session_view v.view) s
       (record { at = p.moment; answer = answer }))
       (sym (same_seen w.view z.view (back.log ∙ read.log)
-      (only.made ∙ ap (λ (s : Seen). s.made) seen) (only.met ∙ ap (λ (s : Seen). s.met) seen)))
+      (only.made ∙ ap (λ (s : StoreState). s.made) seen) (only.met ∙ ap (λ (s : StoreState). s.met) seen)))
       asked_here
 
-pub may_walk_as : (t : TableSeen) (v w : PassSeen) (asked : Option ℕ) (p : Pinned)
-    (root : Option Name) → root ≡ p.root → IsAtRest t v → LooksOn v.view w.view
+pub may_walk_as : (t : TableState) (v w : PassState) (asked : Option ℕ) (p : Pinned)
+    (root : Option Name) → root ≡ p.root → IsAtRest t v → OnlyReadsLog v.view w.view
     → PinsVersion v.view asked p w.view → walks.HoldsRoot w.view.held t.plan.side root
 may_walk_as t v w asked p root same r looks is =
     subst (λ (x : Option Name). walks.HoldsRoot w.view.held t.plan.side x) (sym same)

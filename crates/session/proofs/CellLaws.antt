@@ -12,18 +12,18 @@ use Rattle.node_words.proofs.HeldLaws.{held_reached}
 use Rattle.node_words.specs.Plans.{Layout}
 use Rattle.core_laws.specs.contents.Aligned.{top, world_block}
 use Rattle.node_words.specs.descent.Roots.{ForWorld, IsBlockOf, cells_of}
-use Rattle.history_model.specs.Logs.{kept_side}
-use Rattle.table_rule.specs.LogTelling.{seen_has}
-use Rattle.node_table.specs.Seen.{TableSeen, PassSeen}
+use Rattle.history_model.specs.Logs.{side_of_world}
+use Rattle.table_rule.specs.LogFacts.{seen_has}
+use Rattle.node_table.specs.TableStates.{TableState, PassState}
 use Rattle.version_log.specs.declared.answers.Pinned.{Pinned}
 use Rattle.version_log.specs.Pins.{IsPinned}
 use Rattle.session.specs.Resting.{IsAtRest}
 use Rattle.session.proofs.AskLaws.{named_held}
 use Rattle.session.proofs.FileLaws.{shown_at}
 use Rattle.session.proofs.VoxelLaws.{kept_same}
-use Rattle.session.specs.Roots.{voxels_kept}
+use Rattle.session.specs.Roots.{stored_voxels}
 
-module _ (t : TableSeen) (v : PassSeen) (p : Pinned) (r : IsAtRest t v) (is : IsPinned v.view p)
+module _ (t : TableState) (v : PassState) (p : Pinned) (r : IsAtRest t v) (is : IsPinned v.view p)
   where
     world : World
     world = seen_has v.view p.version
@@ -46,11 +46,11 @@ module _ (t : TableSeen) (v : PassSeen) (p : Pinned) (r : IsAtRest t v) (is : Is
         (seen_has v.view p.version)) side_is is.root.shows
 
     module _ (tint : Bool) where
-      listed : (part : Boxed) → FitsAt part.at part.size (kept_side tint (2 ^ t.plan.side))
+      listed : (part : Boxed) → FitsAt part.at part.size (side_of_world tint (2 ^ t.plan.side))
           → (old new : List Voxel)
           → ForWorld v.view.held t.plan.side p.root
-          (λ cells. new ≡ old ++ voxels_kept tint t.plan.side part cells)
-          → new ≡ old ++ voxels_kept tint t.plan.side part (seen_has v.view p.version)
+          (λ cells. new ≡ old ++ stored_voxels tint t.plan.side part cells)
+          → new ≡ old ++ stored_voxels tint t.plan.side part (seen_has v.view p.version)
       listed part fits old new told =
           told is.root.tree block
           ∙ ap (λ (vs : List Voxel). old ++ vs)
@@ -59,14 +59,14 @@ module _ (t : TableSeen) (v : PassSeen) (p : Pinned) (r : IsAtRest t v) (is : Is
           (shown_at t.plan.side (shape_of is.root.tree) (seen_has v.view p.version) shows))
 
       pub pinned_cells : {X E : Type 0} (result : Result X E) (part : Boxed)
-          → FitsAt part.at part.size (kept_side tint (2 ^ t.plan.side)) → (old new : List Voxel)
+          → FitsAt part.at part.size (side_of_world tint (2 ^ t.plan.side)) → (old new : List Voxel)
           → (root : Option Name) → root ≡ p.root
           → OnOk result (ForWorld v.view.held t.plan.side root
-          (λ cells. new ≡ old ++ voxels_kept tint t.plan.side part cells))
-          → OnOk result (new ≡ old ++ voxels_kept tint t.plan.side part
+          (λ cells. new ≡ old ++ stored_voxels tint t.plan.side part cells))
+          → OnOk result (new ≡ old ++ stored_voxels tint t.plan.side part
           (seen_has v.view p.version))
       pinned_cells (Err e) part fits old new root same told = tt
       pinned_cells (Ok x) part fits old new root same told =
           listed part fits old new
           (subst (λ (n : Option Name). ForWorld v.view.held t.plan.side n
-          (λ cells. new ≡ old ++ voxels_kept tint t.plan.side part cells)) same told)
+          (λ cells. new ≡ old ++ stored_voxels tint t.plan.side part cells)) same told)

@@ -15,50 +15,50 @@ use Rattle.node_words.specs.Plans.{Layout}
 use Rattle.history_model.specs.Stores.{store_has}
 use Rattle.core_laws.specs.contents.Aligned.{world_block}
 use Rattle.core_laws.specs.contents.Contents.{IsFilled}
-use Rattle.core_laws.specs.contents.Versions.{IsKept}
+use Rattle.core_laws.specs.contents.Versions.{HoldsVersion}
 use Rattle.core_laws.specs.Counting.{booked, parented, rooted}
 use Rattle.core_laws.specs.Soundness.{SoundEntries, SoundVersions}
 use Rattle.core_laws.specs.States.{State, IsLive}
-use Rattle.conformance.specs.Answers.{GoesOn}
+use Rattle.conformance.specs.Answers.{ExtendsLog}
 use Rattle.retain.specs.Listing.{Accepted, Found, numbered}
 use Rattle.report.proofs.RootLaws.{log_side}
 use Rattle.table_rule.specs.Knowing as knowing
 use Rattle.table_rule.specs.LogKnowing.{WasFound, numbered_from}
 use Rattle.node_table.specs.Closing as closing
-use Rattle.node_table.specs.Closing.{EndsTable, HadEnough, TellsAll, views_of}
-use Rattle.node_table.specs.Seen.{TableSeen, PassSeen}
+use Rattle.node_table.specs.Closing.{EndsTable, HadEnough, IsHistoryOfAll, views_of}
+use Rattle.node_table.specs.TableStates.{TableState, PassState}
 use Rattle.node_table.specs.declared.closed.Closed.{Closed}
 use Rattle.node_table.specs.declared.closed.Root.{Root}
 use Rattle.conformance.specs.sessions.Ran.{ClosesWorld, StillFound, records_of_all, marks_of_all, made_of_all, met_of_all}
-use Rattle.conformance.specs.sessions.Seen.{SessionSeen, MayTint, log_as}
+use Rattle.conformance.specs.sessions.SessionViews.{SessionView, MayTint, log_as}
 use Rattle.session.proofs.BeginLaws.{get_there}
-use Rattle.session.specs.Closes.{TellsLive, coloured_as, sessions_seen}
+use Rattle.session.specs.Closes.{CountsLive, coloured_as, session_views}
 use Rattle.session.specs.Resting.{IsAtRest}
-use Rattle.session.specs.Seen.{log_seen, session_seen}
+use Rattle.session.specs.SessionWorlds.{log_seen, session_view}
 
 all_there : {X : Type 0} (P : X → Type 0) (xs : List X) → ((x : X) → Contains xs x → P x) → All P xs
 all_there P xs each = All-weaker (Contains xs) P each xs (All-contains_itself xs)
 
 -- ---- the same lists, as sessions have them
 
-all_mapped : {X : Type 0} (P : X → Type 0) (f : PassSeen → X) (passes : List PassSeen)
-    → ((k : ℕ) (s : PassSeen) → slice_get passes k ≡ Some s → P (f s)) → All P (map f passes)
+all_mapped : {X : Type 0} (P : X → Type 0) (f : PassState → X) (passes : List PassState)
+    → ((k : ℕ) (s : PassState) → slice_get passes k ≡ Some s → P (f s)) → All P (map f passes)
 all_mapped P f passes each =
     All-map P f passes (λ k d lt. each k (get_or passes k d) (get_there passes k d lt))
 
-records_same : (passes : List PassSeen)
-    → records_of_all (sessions_seen passes) ≡ closing.all_records (views_of passes)
+records_same : (passes : List PassState)
+    → records_of_all (session_views passes) ≡ closing.all_records (views_of passes)
 records_same [] = refl
 records_same (s ∷ passes) =
     ap (λ (rs : List Accepted). s.view.log.records ++ rs) (records_same passes)
 
-marks_same : (passes : List PassSeen)
-    → marks_of_all (sessions_seen passes) ≡ closing.all_marks (views_of passes)
+marks_same : (passes : List PassState)
+    → marks_of_all (session_views passes) ≡ closing.all_marks (views_of passes)
 marks_same [] = refl
 marks_same (s ∷ passes) = ap (λ (ms : List Mark). s.view.log.marks ++ ms) (marks_same passes)
 
-made_same : (passes : List PassSeen)
-    → made_of_all (sessions_seen passes) ≡ knowing.all_made (views_of passes)
+made_same : (passes : List PassState)
+    → made_of_all (session_views passes) ≡ knowing.all_made (views_of passes)
 made_same [] = refl
 made_same (s ∷ passes) = ap (λ (ss : List Shape). s.view.made ++ ss) (made_same passes)
 
@@ -72,22 +72,22 @@ numbered_same n (r ∷ more) =
 
 -- ---- what met full buckets
 
-met_of : (P : Wanted → Type 0) (passes : List PassSeen)
-    → ((k : ℕ) (s : PassSeen) → slice_get passes k ≡ Some s → (m : Wanted) → Contains s.view.met m
+met_of : (P : Wanted → Type 0) (passes : List PassState)
+    → ((k : ℕ) (s : PassState) → slice_get passes k ≡ Some s → (m : Wanted) → Contains s.view.met m
     → P m)
-    → All P (met_of_all (sessions_seen passes))
+    → All P (met_of_all (session_views passes))
 met_of P [] each = All-nil P
 met_of P (s ∷ passes) each =
-    All-append P s.view.met (met_of_all (sessions_seen passes))
+    All-append P s.view.met (met_of_all (session_views passes))
     (all_there P s.view.met (each 0 s refl))
     (met_of P passes (λ k t is. each (suc k) t is))
 
 -- ---- a history as coloured as the world
 
-kept_as : (coloured : Bool) (log : Log) (v : ℕ) → IsKept log v → IsKept (log_as coloured log) v
+kept_as : (coloured : Bool) (log : Log) (v : ℕ) → HoldsVersion log v → HoldsVersion (log_as coloured log) v
 kept_as coloured log v k = record { there = k.there; unmarked = k.unmarked }
 
-kept_back : (coloured : Bool) (log : Log) (v : ℕ) → IsKept (log_as coloured log) v → IsKept log v
+kept_back : (coloured : Bool) (log : Log) (v : ℕ) → HoldsVersion (log_as coloured log) v → HoldsVersion log v
 kept_back coloured log v k = record { there = k.there; unmarked = k.unmarked }
 
 legal_as : (coloured : Bool) (side : ℕ) (models : List Content) (log : Log)
@@ -134,7 +134,7 @@ versions_as coloured p models state s = record {
 }
 
 -- the table ended so, whatever its world's cells have
-pub ends_as : (coloured : Bool) (t : TableSeen) (closed : Closed) → EndsTable t closed
+pub ends_as : (coloured : Bool) (t : TableState) (closed : Closed) → EndsTable t closed
     → EndsTable t (coloured_as coloured closed)
 ends_as coloured t closed ends =
     let log : Log = ends.state.log in
@@ -148,8 +148,8 @@ ends_as coloured t closed ends =
       history = ap (log_as coloured) ends.history;
       roots = record {
         rising = ends.roots.rising;
-        kept = All-weaker (λ (r : Root). IsKept log r.version)
-            (λ (r : Root). IsKept (log_as coloured log) r.version)
+        kept = All-weaker (λ (r : Root). HoldsVersion log r.version)
+            (λ (r : Root). HoldsVersion (log_as coloured log) r.version)
             (λ r k. kept_as coloured log r.version k) closed.roots.items ends.roots.kept;
         named = ends.roots.named;
         all = λ v k. ends.roots.all v (kept_back coloured log v k);
@@ -162,8 +162,8 @@ ends_as coloured t closed ends =
     }
 
 -- and so are the numbers of live entries
-pub lives_as : (coloured : Bool) (t : TableSeen) (closed : Closed) → TellsLive t closed
-    → TellsLive t (coloured_as coloured closed)
+pub lives_as : (coloured : Bool) (t : TableState) (closed : Closed) → CountsLive t closed
+    → CountsLive t (coloured_as coloured closed)
 lives_as coloured t closed live level below =
     let h = live level below in
     let log : Log = closed.history in
@@ -171,9 +171,9 @@ lives_as coloured t closed live level below =
       sites = h.sites;
       as_many = h.as_many;
       filled = All-weaker
-          (IsFilled (world_block t.plan.side) (λ v. store_has t.models log v) (IsKept log) level)
+          (IsFilled (world_block t.plan.side) (λ v. store_has t.models log v) (HoldsVersion log) level)
           (IsFilled (world_block t.plan.side) (λ v. store_has t.models log v)
-          (IsKept (log_as coloured log)) level)
+          (HoldsVersion (log_as coloured log)) level)
           (λ s f. record {
             there = kept_as coloured log s.version f.there;
             aligned = f.aligned;
@@ -192,15 +192,15 @@ lives_as coloured t closed live level below =
 -- ---- the world
 
 -- the history of a closed table is legal
-pub legal_left : (w : TableSeen) (closed : Closed) → EndsTable w closed
+pub legal_left : (w : TableState) (closed : Closed) → EndsTable w closed
     → IsLegal (2 ^ w.plan.side) w.models closed.history
 legal_left w closed ends =
     subst (λ (log : Log). IsLegal (2 ^ w.plan.side) w.models log)
     (sym ends.history) ends.sound.versions.legal
 
-module _ (tint : Bool) (w : TableSeen) (may : MayTint tint w.plan w.models)
-    (passes : List PassSeen) (log : Log) (rest : All (IsAtRest w) passes)
-    (was_legal : IsLegal (2 ^ w.plan.side) w.models log) (tells : TellsAll log passes)
+module _ (tint : Bool) (w : TableState) (may : MayTint tint w.plan w.models)
+    (passes : List PassState) (log : Log) (rest : All (IsAtRest w) passes)
+    (was_legal : IsLegal (2 ^ w.plan.side) w.models log) (tells : IsHistoryOfAll log passes)
     (had : HadEnough w.plan passes) where
   -- the table's history as that of the world
   abbrev history : Log
@@ -209,8 +209,8 @@ module _ (tint : Bool) (w : TableSeen) (may : MayTint tint w.plan w.models)
   legal : IsLegal (2 ^ w.plan.side) w.models history
   legal = legal_as tint (2 ^ w.plan.side) w.models log was_legal
 
-  goes_on_to : (k : ℕ) (d : PassSeen) → k < length passes
-      → GoesOn (log_as tint (log_seen (get_or passes k d).view.log)) history
+  goes_on_to : (k : ℕ) (d : PassState) → k < length passes
+      → ExtendsLog (log_as tint (log_seen (get_or passes k d).view.log)) history
   goes_on_to k d lt =
       let s = get_or passes k d in
       let b = tells.seen k s (get_there passes k d lt) in
@@ -225,20 +225,20 @@ module _ (tint : Bool) (w : TableSeen) (may : MayTint tint w.plan w.models)
   was_found : (f : Found) → WasFound log f → StillFound history f
   was_found f was = record { there = was.at; still = was.held }
 
-  found_of : (k : ℕ) (s : PassSeen) → slice_get passes k ≡ Some s
+  found_of : (k : ℕ) (s : PassState) → slice_get passes k ≡ Some s
       → All (StillFound history) s.view.log.found
   found_of k s is = all_there (StillFound history) s.view.log.found
       (λ f there. was_found f (tells.found k s is f there))
 
-  pub closes_world : ClosesWorld tint w.plan w.models (sessions_seen passes) history
+  pub closes_world : ClosesWorld tint w.plan w.models (session_views passes) history
   closes_world = record {
     legal = legal;
     may = may;
     coloured = refl;
-    seen = All-map (λ (s : SessionSeen). GoesOn (log_as tint s.log) history)
-        (λ (s : PassSeen). session_seen s.view) passes goes_on_to;
-    found = all_mapped (λ (s : SessionSeen). All (StillFound history) s.found)
-        (λ (s : PassSeen). session_seen s.view) passes found_of;
+    seen = All-map (λ (s : SessionView). ExtendsLog (log_as tint s.log) history)
+        (λ (s : PassState). session_view s.view) passes goes_on_to;
+    found = all_mapped (λ (s : SessionView). All (StillFound history) s.found)
+        (λ (s : PassState). session_view s.view) passes found_of;
     records = record {
       weighs = λ f.
           ap (sum_by f) (sym (numbered_same 1 log.records)) ∙ sym (tells.records f)
@@ -249,7 +249,7 @@ module _ (tint : Bool) (w : TableSeen) (may : MayTint tint w.plan w.models)
     };
     enough = met_of
         (λ (m : Wanted). HasEnough w.plan
-        (made_of_all (sessions_seen passes)) m.level m.bucket) passes
+        (made_of_all (session_views passes)) m.level m.bucket) passes
         (λ k s is m there. subst (λ (ss : List Shape). HasEnough w.plan ss m.level m.bucket)
         (sym (made_same passes)) (had.each k s is m there));
   }

@@ -16,12 +16,12 @@ use Rattle.node_words.specs.Held.{SameHeld}
 use Rattle.node_words.specs.Plans.{Layout}
 use Rattle.core_laws.specs.contents.Aligned.{top, world_block}
 use Rattle.node_words.specs.declared.shares.Full.{Full}
-use Rattle.edit_walk.specs.blocks.Blocks.{GoesBack, MayGoBack}
+use Rattle.edit_walk.specs.blocks.Blocks.{ReturnsShare, MayGoBack}
 use Rattle.retain.specs.Listing.{Accepted}
-use Rattle.table_rule.specs.LogTelling.{number_seen, seen_has}
+use Rattle.table_rule.specs.LogFacts.{number_seen, seen_has}
 use Rattle.table_rule.specs.Rules.{SameSession}
 use Rattle.table_rule.specs.Views.{SeatView}
-use Rattle.node_table.specs.Seen.{TableSeen, PassSeen}
+use Rattle.node_table.specs.TableStates.{TableState, PassState}
 use Rattle.version_log.proofs.LookLaws.{dated_longer}
 use Rattle.version_log.specs.Commits.{AppendsNext, IsMadeOver, IsOwnRecord, with_own}
 use Rattle.version_log.specs.Pins.{PinsVersion}
@@ -29,11 +29,11 @@ use Rattle.version_log.specs.Roots.{GetsRoot, HoldsRootOf}
 use Rattle.version_log.specs.Seeing.{KnowsMore}
 use Rattle.version_log.specs.declared.answers.Pinned.{Pinned}
 use Rattle.conformance.specs.declared.sessions.calls.ActAnswer.TheVariants as acts
-use Rattle.conformance.specs.sessions.Seen.{of_session}
-use Rattle.conformance.specs.sessions.Told.{ActDone}
+use Rattle.conformance.specs.sessions.SessionViews.{of_session}
+use Rattle.conformance.specs.sessions.CallSpecs.{ActDone}
 use Rattle.session.specs.Attempts.{AnswersAct, FailsToMake, HasPinnedHead, WorksOn}
 use Rattle.session.specs.Resting.{IsAtRest}
-use Rattle.session.specs.Seen.{WorldSeen, session_seen}
+use Rattle.session.specs.SessionWorlds.{SessionWorld, session_view}
 use Rattle.session.proofs.ForgetLaws.{head_is}
 use Rattle.session.proofs.SeenLaws.{sees_more}
 use Rattle.session.proofs.WorkLaws.{notes_none}
@@ -62,7 +62,7 @@ may_back a b c root g s = (g.tree, g.name, still_held a b c root g s)
 
 -- and once it went back the same is held as before
 pub back_same : (a b c d : List Tree) (root : Option Name) → GetsRoot a root b → SameHeld b c
-    → GoesBack root c d → SameHeld a d
+    → ReturnsShare root c d → SameHeld a d
 back_same a b c d root g s back =
     let gone = back g.tree g.name (still_held a b c root g s) in
     record {
@@ -82,7 +82,7 @@ held_on a b c f g = record { weighs = λ h. g.weighs h ∙ f.weighs h }
 
 -- the root that was made went to the log
 pub appended_held : (v : List Tree) (w : List Tree) (x : List Tree) (root : Option Name)
-    → GetsRoot v root w → GoesBack root w x → SameHeld v x
+    → GetsRoot v root w → ReturnsShare root w x → SameHeld v x
 appended_held v w x root g gone = back_same v w w x root g (held_itself w) gone
 
 -- ---- the newest version, pinned
@@ -95,6 +95,13 @@ pub head_root : (v : SeatView) (p : Pinned) (root : Option Name) → root ≡ p.
 head_root v p root same h =
     subst (λ (r : Option Name). HoldsRootOf v r (seen_has v (number_seen v))) (sym same)
     (subst (λ (n : ℕ). HoldsRootOf v p.root (seen_has v n)) (h.head ∙ h.now) h.pinned.root)
+
+-- and a root that is the same is one too
+pub root_as : (v : SeatView) (kept root : Option Name) → root ≡ kept
+    → HoldsRootOf v kept (seen_has v (number_seen v))
+    → HoldsRootOf v root (seen_has v (number_seen v))
+root_as v kept root same h =
+    subst (λ (r : Option Name). HoldsRootOf v r (seen_has v (number_seen v))) (sym same) h
 
 -- a root of a version stays one while nothing is seen
 pub holds_stays : (v w : SeatView) (root : Option Name) (n : ℕ) → w.plan ≡ v.plan
@@ -122,7 +129,7 @@ pub made_of_head : (w : SeatView) (p : Pinned) (act : Act) (root : Option Name)
 made_of_head w p act root h made =
     subst (λ (n : ℕ). IsMadeOver w n act root) (sym h.now) made
 
-pub models_fit : (t : TableSeen) (s : PassSeen) (act : Act) → IsAtRest t s
+pub models_fit : (t : TableState) (s : PassState) (act : Act) → IsAtRest t s
     → FitsWorld (2 ^ t.plan.side) t.models act → FitsWorld (2 ^ t.plan.side) s.view.models act
 models_fit t s act r fits =
     subst (λ (ms : List Content). FitsWorld (2 ^ t.plan.side) ms act) (sym r.of.models) fits
@@ -170,11 +177,11 @@ appends_session v w line act root n a =
     subst (λ (x : SeatView). SameSession v x) (sym a.is)
     (record { alive = refl; plan = refl; models = refl; numbers = refl })
 
-done_here : (t : TableSeen) (number line : ℕ) (act : Act) (v : SeatView) (r : Record)
+done_here : (t : TableState) (number line : ℕ) (act : Act) (v : SeatView) (r : Record)
     (held : List Tree) (busy : List ℕ) (n : ℕ) → n ≡ number_seen v + 1
     → r ≡ record { session = number; line = line; act = act }
-    → ActDone (of_session t.plan t.models number) line act (session_seen v)
-    (session_seen (with_own v r held busy)) n
+    → ActDone (of_session t.plan t.models number) line act (session_view v)
+    (session_view (with_own v r held busy)) n
 unfolding numbered_at
 done_here t number line act v r held busy n at same =
     let x : SeatView = with_own v r held busy in
@@ -198,30 +205,30 @@ done_here t number line act v r held busy n at same =
             ∙ ap (numbered_at (number_seen x)) same);
         marks = refl;
       };
-      notes = notes_none t.plan t.models act (session_seen v) (session_seen x) refl;
+      notes = notes_none t.plan t.models act (session_view v) (session_view x) refl;
     }
 
 -- where all versions are held
-pub done_alone : (t : WorldSeen) (line : ℕ) (act : Act) (root : Option Name) (n : ℕ)
+pub done_alone : (t : SessionWorld) (line : ℕ) (act : Act) (root : Option Name) (n : ℕ)
     (v w : SeatView) → AppendsNext v line act root n w → (number : ℕ) → v.numbers ≡ number ∷ []
-    → ActDone (of_session t.table.plan t.table.models number) line act (session_seen v)
-    (session_seen w) n
+    → ActDone (of_session t.table.plan t.table.models number) line act (session_view v)
+    (session_view w) n
 done_alone t line act root n v w a number one =
     subst (λ (x : SeatView). ActDone (of_session t.table.plan t.table.models number) line act
-    (session_seen v) (session_seen x) n) (sym a.is)
+    (session_view v) (session_view x) n) (sym a.is)
     (done_here t.table number line act v a.by w.held w.log.busy n a.number
     (own_record v line number act a.by one a.own))
 
 -- ---- a history without room
 
-pub late_answers : (t : WorldSeen) (line : ℕ) (act : Act) (v w : SeatView) → is_edit act ≡ true
+pub late_answers : (t : SessionWorld) (line : ℕ) (act : Act) (v w : SeatView) → is_edit act ≡ true
     → WorksOn t.table act v w → number_seen w ≡ 65535 → AnswersAct t line act acts.LogFull v w
 late_answers t line act v w edit works all number one =
     record { all = all; nothing = works.nothing; notes = works.notes; way = inl edit }
 
 -- ---- a bucket without room
 
-pub full_answers : (t : WorldSeen) (line : ℕ) (act : Act) (at : ℕ) (full : Full) (v w : SeatView)
+pub full_answers : (t : SessionWorld) (line : ℕ) (act : Act) (at : ℕ) (full : Full) (v w : SeatView)
     → at ≡ number_seen w → FailsToMake t.table act full v w
     → AnswersAct t line act (acts.Full at full) v w
 full_answers t line act at full v w here fails number one =

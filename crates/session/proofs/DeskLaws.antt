@@ -1,16 +1,16 @@
--- What each call tells of its session, for the desk.
+-- What each call tells of its session, for the responder.
 use Rattle.std.proofs.Common.{◌≡◌, ℕ, ◌+◌, ◌-◌, ◌≤◌, Option, Result, Ok, Err, List, [], ◌∷◌, ◌++◌, drop, length, length-append, take, ap, sym, subst, ◌∙◌, arith}
 use Rattle.std.proofs.lemmas.List.{drop-append-le, drop_all, length-drop, map_push, take-append-drop, take-append-le, take_all}
 use Rattle.node_words.specs.shapes.Tree.{Tree}
 use Rattle.node_words.specs.shapes.Weights.{weigh, number_of_trees}
 use Rattle.node_words.specs.Held.{SameHeld}
 use Rattle.table_rule.specs.Views.{SeatView}
-use Rattle.node_table.specs.Seen.{TableSeen, PassSeen, SamePass}
+use Rattle.node_table.specs.TableStates.{TableState, PassState, SamePass}
 use Rattle.version_log.specs.declared.answers.Pinned.{Pinned}
-use Rattle.session.specs.Desks.{DeskStands}
+use Rattle.session.specs.Responders.{IsReadyResponder}
 use Rattle.session.specs.Resting.{IsAtRest}
 use Rattle.session.specs.Saves.{AddsPin, SeatHoldsMore, SeatHoldsPins, pinned_versions}
-use Rattle.session.specs.Seen.{WorldSeen, of_world, session_seen}
+use Rattle.session.specs.SessionWorlds.{SessionWorld, of_world, session_view}
 use Rattle.session.proofs.SaveLaws.{few_held, no_pins, one_more, still_held}
 use Rattle.history_model.specs.declared.acts.Act.{Act}
 use Rattle.history_model.specs.declared.questions.Question.{Question}
@@ -34,11 +34,11 @@ use Rattle.script.specs.declared.commands.ScriptLine.{ScriptLine}
 use Rattle.transcript.specs.declared.answers.LineAnswer.{LineAnswer}
 use Rattle.conformance.specs.sessions.Runs.{RunsScript}
 use Rattle.conformance.specs.sessions.Saves.{version_saved}
-use Rattle.conformance.specs.sessions.Seen.{SessionOf, SessionSeen}
-use Rattle.conformance.specs.sessions.Told.{ActTold, AskTold, ForgetTold, HeadTold, OnceTold, PinIsRefused, SameTold, SaveTold}
+use Rattle.conformance.specs.sessions.SessionViews.{SessionOf, SessionView}
+use Rattle.conformance.specs.sessions.CallSpecs.{ActSpec, AskSpec, ForgetSpec, HeadSpec, OnceSpec, PinIsRefused, SameSpec, SaveSpec}
 
-module _ (of : SessionOf) (old new : SessionSeen) where
-  pub act_sees : (line : ℕ) (act : Act) (answer : ActAnswer) → ActTold of line act old new answer
+module _ (of : SessionOf) (old new : SessionView) where
+  pub act_sees : (line : ℕ) (act : Act) (answer : ActAnswer) → ActSpec of line act old new answer
       → FollowsHistory old new
   act_sees line act (acts.Done n) told = told.appends.sees
   act_sees line act (acts.Full at full) told = told.nothing.sees
@@ -47,7 +47,7 @@ module _ (of : SessionOf) (old new : SessionSeen) where
   act_sees line act (acts.NothingToRedo at) told = told.nothing.sees
   act_sees line act (acts.Forgotten at mark) told = told.nothing.sees
 
-  pub once_sees : (line : ℕ) (act : Act) (answer : OnceAnswer) → OnceTold of line act old new answer
+  pub once_sees : (line : ℕ) (act : Act) (answer : OnceAnswer) → OnceSpec of line act old new answer
       → FollowsHistory old new
   once_sees line act (onces.Done n) told = told.appends.sees
   once_sees line act (onces.Full at full) told = told.nothing.sees
@@ -60,71 +60,71 @@ module _ (of : SessionOf) (old new : SessionSeen) where
   refused_sees version (pins.Forgotten at mark) told = told.only.nothing.sees
 
   pub ask_sees : (version : Option ℕ) (question : Question) (answer : Result AskedAt PinRefused)
-      → AskTold of version question old new answer → FollowsHistory old new
+      → AskSpec of version question old new answer → FollowsHistory old new
   ask_sees version question (Ok a) told = told.only.nothing.sees
   ask_sees version question (Err refused) told = refused_sees version refused told
 
   pub save_sees : (version : Option ℕ) (part : Boxed) (answer : Result SavedAt PinRefused)
-      → SaveTold of version part old new answer → FollowsHistory old new
+      → SaveSpec of version part old new answer → FollowsHistory old new
   save_sees version part (Ok a) told = told.only.nothing.sees
   save_sees version part (Err refused) told = refused_sees version refused told
 
   pub forget_sees : (line version : ℕ) (answer : Result ℕ ForgetRefused)
-      → ForgetTold of line version old new answer → FollowsHistory old new
+      → ForgetSpec of line version old new answer → FollowsHistory old new
   forget_sees line version (Ok at) told = told.forgets.sees
   forget_sees line version (Err (forgets.NoVersion at)) told = told.only.nothing.sees
   forget_sees line version (Err (forgets.IsHead at)) told = told.only.nothing.sees
   forget_sees line version (Err (forgets.Forgotten at mark)) told = told.only.nothing.sees
 
-  pub same_sees : (v w : ℕ) (answer : Result SameAt SameRefused) → SameTold of v w old new answer
+  pub same_sees : (v w : ℕ) (answer : Result SameAt SameRefused) → SameSpec of v w old new answer
       → FollowsHistory old new
   same_sees v w (Ok a) told = told.only.nothing.sees
   same_sees v w (Err (sames.NoVersion at version)) told = told.only.nothing.sees
   same_sees v w (Err (sames.Forgotten at mark)) told = told.only.nothing.sees
 
-  pub head_sees : (at : ℕ) → HeadTold old new at → FollowsHistory old new
+  pub head_sees : (at : ℕ) → HeadSpec old new at → FollowsHistory old new
   head_sees at told = told.only.nothing.sees
 
--- ---- what holds of the desk between two lines
+-- ---- what holds of the responder between two lines
 
-module _ (w : TableSeen) (number first most : ℕ) (s : PassSeen) (saves : List Pinned)
-    (capacity : ℕ) (d : DeskStands w number first most s saves capacity) where
+module _ (w : TableState) (number first most : ℕ) (s : PassState) (saves : List Pinned)
+    (capacity : ℕ) (d : IsReadyResponder w number first most s saves capacity) where
   -- there is room for the shares of one call
   pub few_shares : number_of_trees s.view.held ≤ 3900
   few_shares =
-      let few = few_held w (session_seen s.view) s.view.held (drop first saves) d.holds in
+      let few = few_held w (session_view s.view) s.view.held (drop first saves) d.holds in
       let own = length-drop first saves in
       let a = d.few in
       let b = d.fewer in
       omega arith
 
-  same_number : (z : PassSeen) → SamePass s z → z.view.numbers ≡ number ∷ []
+  same_number : (z : PassState) → SamePass s z → z.view.numbers ≡ number ∷ []
   same_number z same = same.session.numbers ∙ d.mine
 
-  pub desk_goes_on : (z : PassSeen) → IsAtRest w z → SamePass s z → SameHeld s.view.held z.view.held
-      → FollowsHistory (session_seen s.view) (session_seen z.view)
-      → DeskStands w number first most z saves capacity
+  pub desk_goes_on : (z : PassState) → IsAtRest w z → SamePass s z → SameHeld s.view.held z.view.held
+      → FollowsHistory (session_view s.view) (session_view z.view)
+      → IsReadyResponder w number first most z saves capacity
   desk_goes_on z rest same held sees = record {
     rest = rest;
     mine = same_number z same;
     begun = d.begun;
-    holds = still_held w (session_seen s.view)
-        (session_seen z.view) s.view.held z.view.held (drop first saves) d.holds held sees;
+    holds = still_held w (session_view s.view)
+        (session_view z.view) s.view.held z.view.held (drop first saves) d.holds held sees;
     few = d.few;
     fewer = d.fewer;
     room = d.room;
   }
 
-  pub desk_saves : (z : PassSeen) (p : Pinned) (more : List Pinned) → 1 ≤ most - length saves
-      → IsAtRest w z → SamePass s z → AddsPin w (session_seen z.view) s.view.held z.view.held p
-      → FollowsHistory (session_seen s.view) (session_seen z.view) → more ≡ saves ++ p ∷ []
-      → (wide : ℕ) → wide ≡ capacity → DeskStands w number first most z more wide
+  pub desk_saves : (z : PassState) (p : Pinned) (more : List Pinned) → 1 ≤ most - length saves
+      → IsAtRest w z → SamePass s z → AddsPin w (session_view z.view) s.view.held z.view.held p
+      → FollowsHistory (session_view s.view) (session_view z.view) → more ≡ saves ++ p ∷ []
+      → (wide : ℕ) → wide ≡ capacity → IsReadyResponder w number first most z more wide
   desk_saves z p more room rest same adds sees is wide as_wide = record {
     rest = rest;
     mine = same_number z same;
     begun = (let long = ap length is in let one = length-append saves (p ∷ []) in
         let there = d.begun in omega arith);
-    holds = one_more w (session_seen s.view) (session_seen z.view) s.view.held z.view.held
+    holds = one_more w (session_view s.view) (session_view z.view) s.view.held z.view.held
         (drop first saves) (drop first more) p d.holds sees adds
         (ap (λ (ps : List Pinned). drop first ps) is
         ∙ drop-append-le first saves (p ∷ []) d.begun);
@@ -138,15 +138,15 @@ same_if old new e = record { weighs = λ f. ap (weigh f) e }
 
 -- ---- a session that begins, and what it saves
 
-pub desk_begins : (w : TableSeen) (number first most : ℕ) (s : PassSeen) (saves : List Pinned)
+pub desk_begins : (w : TableState) (number first most : ℕ) (s : PassState) (saves : List Pinned)
     (capacity : ℕ) → IsAtRest w s → s.view.numbers ≡ number ∷ [] → s.view.held ≡ []
     → first ≡ length saves → length saves ≤ most → most ≤ first + 3900 → most ≤ capacity
-    → DeskStands w number first most s saves capacity
+    → IsReadyResponder w number first most s saves capacity
 desk_begins w number first most s saves capacity rest mine held all few fewer room = record {
   rest = rest;
   mine = mine;
   begun = omega arith;
-  holds = no_pins w (session_seen s.view) s.view.held (drop first saves) held
+  holds = no_pins w (session_view s.view) s.view.held (drop first saves) held
       (drop_all first saves (omega arith));
   few = few;
   fewer = fewer;
@@ -171,29 +171,29 @@ pub one_number : (ns : List ℕ) (m n : ℕ) → ns ≡ m ∷ [] → ns ≡ n �
 one_number ns m n first second = cc
 
 -- what the lines made of the session, as the lender of session and list sees it
-pub script_ran : (w : WorldSeen) (mine : ℕ) (script lines : List ScriptLine)
-    (before after : List LineAnswer) (old : PassSeen) (new last : SessionSeen)
+pub script_ran : (w : SessionWorld) (mine : ℕ) (script lines : List ScriptLine)
+    (before after : List LineAnswer) (old : PassState) (new last : SessionView)
     (were are saved : List Pinned) → lines ≡ script → last ≡ new → saved ≡ are
     → old.view.numbers ≡ mine ∷ []
-    → RunsScript (of_world w mine) lines before after (session_seen old.view) new
+    → RunsScript (of_world w mine) lines before after (session_view old.view) new
     (pinned_versions were) (pinned_versions are)
     → (number : ℕ) → old.view.numbers ≡ number ∷ []
-    → RunsScript (of_world w number) script before after (session_seen old.view) last
+    → RunsScript (of_world w number) script before after (session_view old.view) last
     (pinned_versions were) (pinned_versions saved)
 script_ran w mine script lines before after old new last were are saved of session list one ran number other =
-    subst (λ (n : ℕ). RunsScript (of_world w n) script before after (session_seen old.view) last
+    subst (λ (n : ℕ). RunsScript (of_world w n) script before after (session_view old.view) last
     (pinned_versions were) (pinned_versions saved))
     (one_number old.view.numbers mine number one other)
     (subst (λ (ls : List ScriptLine). RunsScript (of_world w mine) ls before after
-    (session_seen old.view) last (pinned_versions were) (pinned_versions saved)) of
+    (session_view old.view) last (pinned_versions were) (pinned_versions saved)) of
     (subst (λ (ps : List Pinned). RunsScript (of_world w mine) lines before after
-    (session_seen old.view) last (pinned_versions were) (pinned_versions ps)) (sym list)
-    (subst (λ (z : SessionSeen). RunsScript (of_world w mine) lines before after
-    (session_seen old.view) z (pinned_versions were) (pinned_versions are))
+    (session_view old.view) last (pinned_versions were) (pinned_versions ps)) (sym list)
+    (subst (λ (z : SessionView). RunsScript (of_world w mine) lines before after
+    (session_view old.view) z (pinned_versions were) (pinned_versions are))
     (sym session) ran)))
 
 -- the first pins are those that were there, and the roots of the others are held
-pub script_holds : (w x : TableSeen) (new last : SeatView) (m n : ℕ) (were are saved : List Pinned)
+pub script_holds : (w x : TableState) (new last : SeatView) (m n : ℕ) (were are saved : List Pinned)
     → x ≡ w → last ≡ new → saved ≡ are → m ≡ length were → n ≡ m → take m are ≡ take m were
     → SeatHoldsPins x new (drop n are) → SeatHoldsMore w last were saved
 script_holds w x new last m n were are saved world session list all first kept holds =
@@ -203,15 +203,15 @@ script_holds w x new last m n were are saved world session list all first kept h
           ∙ ap (λ (ps : List Pinned). ps ++ drop m are)
           (kept ∙ take_all m were (omega arith));
       holds = subst (λ (i : ℕ). SeatHoldsPins w last (drop i are)) first
-          (subst (λ (t : TableSeen). SeatHoldsPins t last (drop n are)) world
+          (subst (λ (t : TableState). SeatHoldsPins t last (drop n are)) world
           (subst (λ (v : SeatView). SeatHoldsPins x v (drop n are)) (sym session) holds));
     })
 
-pub script_rests : (w x : TableSeen) (new last : PassSeen) → x ≡ w → last ≡ new → IsAtRest x new
+pub script_rests : (w x : TableState) (new last : PassState) → x ≡ w → last ≡ new → IsAtRest x new
     → IsAtRest w last
 script_rests w x new last world session rest =
-    subst (λ (t : TableSeen). IsAtRest t last) world
-    (subst (λ (z : PassSeen). IsAtRest x z) (sym session) rest)
+    subst (λ (t : TableState). IsAtRest t last) world
+    (subst (λ (z : PassState). IsAtRest x z) (sym session) rest)
 
-pub script_same : (old new last : PassSeen) → last ≡ new → SamePass old new → SamePass old last
-script_same old new last session same = subst (λ (z : PassSeen). SamePass old z) (sym session) same
+pub script_same : (old new last : PassState) → last ≡ new → SamePass old new → SamePass old last
+script_same old new last session same = subst (λ (z : PassState). SamePass old z) (sym session) same

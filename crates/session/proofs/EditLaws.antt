@@ -7,23 +7,23 @@ use Rattle.node_words.specs.shapes.Tree.{Tree}
 use Rattle.node_words.specs.shapes.Weights.{number_of_trees}
 use Rattle.node_words.specs.declared.shares.Full.{Full}
 use Rattle.node_words.specs.Held.{SameHeld}
-use Rattle.edit_walk.specs.blocks.Blocks.{GoesBack, MayGoBack}
-use Rattle.table_rule.specs.LogTelling.{number_seen}
+use Rattle.edit_walk.specs.blocks.Blocks.{ReturnsShare, MayGoBack}
+use Rattle.table_rule.specs.LogFacts.{number_seen}
 use Rattle.table_rule.specs.Views.{SeatView}
 use Rattle.version_log.specs.Roots.{GetsRoot}
-use Rattle.version_log.specs.Seeing.{LooksOn}
+use Rattle.version_log.specs.Seeing.{OnlyReadsLog}
 use Rattle.version_log.specs.declared.answers.Pinned.{Pinned}
 use Rattle.conformance.specs.declared.sessions.calls.ActAnswer.{ActAnswer}
 use Rattle.conformance.specs.declared.sessions.calls.ActAnswer.TheVariants as acts
-use Rattle.session.specs.declared.attempts.Late.{Late}
+use Rattle.session.specs.declared.attempts.StaleRoot.{StaleRoot}
 use Rattle.conformance.specs.declared.sessions.calls.OnceAnswer.{OnceAnswer}
 use Rattle.conformance.specs.declared.sessions.calls.OnceAnswer.TheVariants as once
-use Rattle.conformance.specs.sessions.Seen.{SessionSeen}
-use Rattle.conformance.specs.sessions.Told.{ActFull, ActStale, ActTold, OnceTold}
+use Rattle.conformance.specs.sessions.SessionViews.{SessionView}
+use Rattle.conformance.specs.sessions.CallSpecs.{ActFull, ActStale, ActSpec, OnceSpec}
 use Rattle.session.specs.declared.attempts.EditAnswer.{EditAnswer}
 use Rattle.session.specs.declared.attempts.EditAnswer.TheVariants as edits
 use Rattle.session.specs.Attempts.{AnswersAct, AnswersOnce, HasPinnedHead, IsLate, act_answer, once_answer}
-use Rattle.session.specs.Seen.{WorldSeen, of_world, session_seen}
+use Rattle.session.specs.SessionWorlds.{SessionWorld, of_world, session_view}
 use Rattle.session.proofs.CommitLaws.{back_same, few_gained, may_back, same_number_held}
 use Rattle.session.proofs.WorkLaws.{answers_after, answers_still, looks_work, told_after, works_on}
 
@@ -46,24 +46,24 @@ module _ (v w : SeatView) (root : Option Name) (gains : GetsRoot v.held root w.h
       omega arith
 
   pub base_gone : (x y : SeatView) (given : Option Name) → given ≡ root → SameHeld w.held x.held
-      → GoesBack given x.held y.held → SameHeld v.held y.held
+      → ReturnsShare given x.held y.held → SameHeld v.held y.held
   base_gone x y given same held gone =
       back_same v.held w.held x.held y.held root gains held
-      (subst (λ (r : Option Name). GoesBack r x.held y.held) same gone)
+      (subst (λ (r : Option Name). ReturnsShare r x.held y.held) same gone)
 
 -- what was answered behind the pin was answered from before it
-pub pinned_answers : (t : WorldSeen) (line : ℕ) (act : Act) (answer : ActAnswer)
-    (v w x y : SeatView) → LooksOn v w → AnswersAct t line act answer w x
-    → session_seen y ≡ session_seen x → AnswersAct t line act answer v y
+pub pinned_answers : (t : SessionWorld) (line : ℕ) (act : Act) (answer : ActAnswer)
+    (v w x y : SeatView) → OnlyReadsLog v w → AnswersAct t line act answer w x
+    → session_view y ≡ session_view x → AnswersAct t line act answer v y
 pinned_answers t line act answer v w x y looks told seen =
     answers_still t line act answer v x y seen
     (answers_after t line act answer v w x (looks_work t.table act v w looks) told)
 
 -- and so was what was answered by the second attempt
-pub again_answers : (t : WorldSeen) (line : ℕ) (act same : Act) (answer : ActAnswer)
-    (base : Pinned) (late : Late) (v w x y a b : SeatView) → LooksOn v w
+pub again_answers : (t : SessionWorld) (line : ℕ) (act same : Act) (answer : ActAnswer)
+    (base : Pinned) (late : StaleRoot) (v w x y a b : SeatView) → OnlyReadsLog v w
     → IsLate t.table act base late w x → same ≡ act → AnswersAct t line same answer x y
-    → session_seen a ≡ session_seen y → session_seen b ≡ session_seen a
+    → session_view a ≡ session_view y → session_view b ≡ session_view a
     → AnswersAct t line act answer v b
 again_answers t line act same answer base late v w x y a b looks is e told first second =
     answers_still t line act answer v y b (second ∙ first)
@@ -72,34 +72,34 @@ again_answers t line act same answer base late v w x y a b looks is e told first
     (subst (λ (z : Act). AnswersAct t line z answer x y) e told))
 
 -- an edit's answer as one of an act
-pub act_told : (t : WorldSeen) (line : ℕ) (act : Act) (a : EditAnswer) (x : ActAnswer)
+pub act_told : (t : SessionWorld) (line : ℕ) (act : Act) (a : EditAnswer) (x : ActAnswer)
     (v w : SeatView) → x ≡ act_answer a → AnswersAct t line act (act_answer a) v w
     → AnswersAct t line act x v w
 act_told t line act a x v w same told =
     subst (λ (y : ActAnswer). AnswersAct t line act y v w) (sym same) told
 
 -- what was answered behind a change that was refused, or came too late
-pub full_answers_on : (t : WorldSeen) (line : ℕ) (act : Act) (answer : ActAnswer) (at : ℕ)
+pub full_answers_on : (t : SessionWorld) (line : ℕ) (act : Act) (answer : ActAnswer) (at : ℕ)
     (full : Full) (u v w : SeatView) → v.numbers ≡ u.numbers
     → AnswersAct t line act (acts.Full at full) u v → AnswersAct t line act answer v w
     → AnswersAct t line act answer u w
 full_answers_on t line act answer at full u v w same f g number one =
-    let x : ActFull (of_world t number) act (session_seen u) (session_seen v) at full.level
+    let x : ActFull (of_world t number) act (session_view u) (session_view v) at full.level
     full.bucket = f number one in
-    told_after t number line act (session_seen u) (session_seen v) (session_seen w) x.nothing
+    told_after t number line act (session_view u) (session_view v) (session_view w) x.nothing
     x.meets.notes answer (g number (same ∙ one))
 
-pub stale_answers : (t : WorldSeen) (line : ℕ) (act : Act) (answer : ActAnswer) (at base : ℕ)
+pub stale_answers : (t : SessionWorld) (line : ℕ) (act : Act) (answer : ActAnswer) (at base : ℕ)
     (u v w : SeatView) → v.numbers ≡ u.numbers → AnswersOnce t line act (once.Stale at base) u v
     → AnswersAct t line act answer v w → AnswersAct t line act answer u w
 stale_answers t line act answer at base u v w same f g number one =
-    let x : ActStale (of_world t number) act (session_seen u) (session_seen v) at base =
+    let x : ActStale (of_world t number) act (session_view u) (session_view v) at base =
     f number one in
-    told_after t number line act (session_seen u) (session_seen v) (session_seen w) x.nothing
+    told_after t number line act (session_view u) (session_view v) (session_view w) x.nothing
     x.notes answer (g number (same ∙ one))
 
 -- the same of an act that is the same
-pub answers_as : (t : WorldSeen) (line : ℕ) (act made : Act) (answer : ActAnswer) (v w : SeatView)
+pub answers_as : (t : SessionWorld) (line : ℕ) (act made : Act) (answer : ActAnswer) (v w : SeatView)
     → made ≡ act → AnswersAct t line made answer v w → AnswersAct t line act answer v w
 answers_as t line act made answer v w same told =
     subst (λ (z : Act). AnswersAct t line z answer v w) same told
@@ -127,29 +127,29 @@ two_room a b c d q r f g same few =
 
 -- ---- one attempt
 
-pub once_told : (t : WorldSeen) (line : ℕ) (act : Act) (a : EditAnswer) (x : OnceAnswer)
+pub once_told : (t : SessionWorld) (line : ℕ) (act : Act) (a : EditAnswer) (x : OnceAnswer)
     (v w : SeatView) → x ≡ once_answer a → AnswersAct t line act (act_answer a) v w
     → (number : ℕ) → v.numbers ≡ number ∷ []
-    → OnceTold (of_world t number) line act (session_seen v) (session_seen w) x
+    → OnceSpec (of_world t number) line act (session_view v) (session_view w) x
 once_told t line act a x v w same told number one =
-    subst (λ (y : OnceAnswer). OnceTold (of_world t number) line act (session_seen v)
-    (session_seen w) y) (sym same) (by a (told number one))
+    subst (λ (y : OnceAnswer). OnceSpec (of_world t number) line act (session_view v)
+    (session_view w) y) (sym same) (by a (told number one))
   where
     by : (b : EditAnswer)
-        → ActTold (of_world t number) line act (session_seen v) (session_seen w) (act_answer b)
-        → OnceTold (of_world t number) line act (session_seen v) (session_seen w) (once_answer b)
+        → ActSpec (of_world t number) line act (session_view v) (session_view w) (act_answer b)
+        → OnceSpec (of_world t number) line act (session_view v) (session_view w) (once_answer b)
     by (edits.Done n) h = h
     by (edits.Full at full) h = h
     by edits.LogFull h = h
 
-pub stale_told : (t : WorldSeen) (line : ℕ) (act : Act) (base : Pinned) (late : Late)
-    (v w x y z : SeatView) → LooksOn v w → HasPinnedHead w base
-    → IsLate t.table act base late w x → session_seen y ≡ session_seen x
-    → session_seen z ≡ session_seen y → (number : ℕ) → v.numbers ≡ number ∷ []
-    → OnceTold (of_world t number) line act (session_seen v) (session_seen z)
+pub stale_told : (t : SessionWorld) (line : ℕ) (act : Act) (base : Pinned) (late : StaleRoot)
+    (v w x y z : SeatView) → OnlyReadsLog v w → HasPinnedHead w base
+    → IsLate t.table act base late w x → session_view y ≡ session_view x
+    → session_view z ≡ session_view y → (number : ℕ) → v.numbers ≡ number ∷ []
+    → OnceSpec (of_world t number) line act (session_view v) (session_view z)
     (once.Stale late.at base.moment)
 stale_told t line act base late v w x y z looks head is first second number one =
-    subst (λ (s : SessionSeen). OnceTold (of_world t number) line act (session_seen v) s
+    subst (λ (s : SessionView). OnceSpec (of_world t number) line act (session_view v) s
     (once.Stale late.at base.moment)) (sym (second ∙ first))
     (let works = works_on t.table act v w x (looks_work t.table act v w looks) is.works in
     let long = looks.sees.seen.records in

@@ -7,24 +7,24 @@ use Rattle.node_words.specs.shapes.Shape.{Shape}
 use Rattle.node_words.specs.shapes.Weights.{number_of_trees, weigh}
 use Rattle.node_words.specs.Gathering.{MayHold}
 use Rattle.node_words.specs.Held.{OnlyHeldChanges, SameHeld, Wanted}
-use Rattle.edit_walk.specs.blocks.Blocks.{GoesBack, MayGoBack}
+use Rattle.edit_walk.specs.blocks.Blocks.{ReturnsShare, MayGoBack}
 use Rattle.conformance.specs.Answers.{mark_of}
-use Rattle.table_rule.specs.LogTelling.{number_seen}
+use Rattle.table_rule.specs.LogFacts.{number_seen}
 use Rattle.table_rule.specs.LogViews.{LogView}
-use Rattle.table_rule.specs.Telling.{ViewTells}
+use Rattle.table_rule.specs.ViewFacts.{ViewFacts}
 use Rattle.table_rule.specs.Views.{SeatView, seen_of}
 use Rattle.node_table.specs.LogTurns.{HasNoTurn}
-use Rattle.node_table.specs.Seen.{TableSeen, PassSeen}
+use Rattle.node_table.specs.TableStates.{TableState, PassState}
 use Rattle.version_log.specs.Forgets.{ForgetsVersion, IsOwnMark, RefusesForget}
-use Rattle.version_log.specs.Seeing.{IsDated, LooksOn}
+use Rattle.version_log.specs.Seeing.{IsDated, OnlyReadsLog}
 use Rattle.version_log.specs.declared.answers.Forgot.{Forgot}
 use Rattle.retain.specs.declared.refusals.ForgetRefused.{ForgetRefused}
 use Rattle.retain.specs.declared.refusals.ForgetRefused.TheVariants.{NoVersion, IsHead, Forgotten}
-use Rattle.conformance.specs.sessions.Seen.{SessionSeen}
-use Rattle.conformance.specs.sessions.Told.{ForgetTold}
-use Rattle.hands.specs.Lendable.{StaysLendable}
+use Rattle.conformance.specs.sessions.SessionViews.{SessionView}
+use Rattle.conformance.specs.sessions.CallSpecs.{ForgetSpec}
+use Rattle.session.specs.Lendable.{StaysLendable}
 use Rattle.session.specs.Resting.{IsAtRest}
-use Rattle.session.specs.Seen.{KnowsItself, WorldSeen, log_seen, of_world, session_seen}
+use Rattle.session.specs.SessionWorlds.{KnowsItself, SessionWorld, log_seen, of_world, session_view}
 use Rattle.session.proofs.SeenLaws.{knows_itself, only_sees, same_noted, sees_more}
 
 made_mark : ℕ → ℕ → ℕ → ℕ → Mark
@@ -69,7 +69,7 @@ few_held v w version line f is few =
 
 pub same_held : (v w z : SeatView) (version line : ℕ) (f : Forgot)
     → ForgetsVersion v version line f w
-    → GoesBack f.root w.held z.held → SameHeld v.held z.held
+    → ReturnsShare f.root w.held z.held → SameHeld v.held z.held
 same_held v w z version line f is back =
     let gone = back is.tree is.name (comes_held v w version line f is) in
     record {
@@ -78,7 +78,7 @@ same_held v w z version line f is back =
           let same : weigh g z.held ≡ weigh g v.held = omega arith in same);
     }
 
-seen_as : LogView → List Shape → List Wanted → SessionSeen
+seen_as : LogView → List Shape → List Wanted → SessionView
 seen_as l made met = record {
   log = log_seen l;
   records = l.records;
@@ -88,16 +88,16 @@ seen_as l made met = record {
 }
 
 pub same_seen : (w z : SeatView) → z.log ≡ w.log → z.made ≡ w.made → z.met ≡ w.met
-    → session_seen z ≡ session_seen w
+    → session_view z ≡ session_view w
 unfolding seen_as
 same_seen w z log made met =
     ap (λ (l : LogView). seen_as l z.made z.met) log ∙ ap (λ ms. seen_as w.log ms z.met) made
     ∙ ap (λ ws. seen_as w.log w.made ws) met
 
-module _ (t : WorldSeen) (number line version : ℕ) where
+module _ (t : SessionWorld) (number line version : ℕ) where
   forgets_here : (v w : SeatView) (f : Forgot) → v.numbers ≡ number ∷ []
       → ForgetsVersion v version line f w
-      → ForgetTold (of_world t number) line version (session_seen v) (session_seen w) (Ok f.at)
+      → ForgetSpec (of_world t number) line version (session_view v) (session_view w) (Ok f.at)
   forgets_here v w f one is =
       let mark : is.mark ≡ mark_of version (number_seen w) number line =
       own_mark v version f.at line number is.mark one is.own
@@ -114,18 +114,18 @@ module _ (t : WorldSeen) (number line version : ℕ) where
         };
       }
 
-  pub forgot_told : (v : SeatView) (w z : PassSeen) (f : Forgot) → v.numbers ≡ number ∷ []
+  pub forgot_told : (v : SeatView) (w z : PassState) (f : Forgot) → v.numbers ≡ number ∷ []
       → ForgetsVersion v version line f w.view → StaysLendable t.table w z
       → OnlyHeldChanges (seen_of w.view) (seen_of z.view)
-      → ForgetTold (of_world t number) line version (session_seen v) (session_seen z.view) (Ok f.at)
+      → ForgetSpec (of_world t number) line version (session_view v) (session_view z.view) (Ok f.at)
   forgot_told v w z f one is stays only =
-      subst (λ (s : SessionSeen).
-      ForgetTold (of_world t number) line version (session_seen v) s (Ok f.at))
+      subst (λ (s : SessionView).
+      ForgetSpec (of_world t number) line version (session_view v) s (Ok f.at))
       (sym (same_seen w.view z.view stays.log only.made only.met))
       (forgets_here v w.view f one is)
 
-  pub refused_told : (v w : SeatView) (e : ForgetRefused) → LooksOn v w → RefusesForget version e w
-      → ForgetTold (of_world t number) line version (session_seen v) (session_seen w)
+  pub refused_told : (v w : SeatView) (e : ForgetRefused) → OnlyReadsLog v w → RefusesForget version e w
+      → ForgetSpec (of_world t number) line version (session_view v) (session_view w)
       (Err e)
   refused_told v w (NoVersion at) looks is =
       record {
@@ -146,7 +146,7 @@ module _ (t : WorldSeen) (number line version : ℕ) where
       }
 
 -- a session is at rest once its share went back
-pub rests_back : (t : TableSeen) (s w z : PassSeen) (version line : ℕ) (f : Forgot)
+pub rests_back : (t : TableState) (s w z : PassState) (version line : ℕ) (f : Forgot)
     → IsAtRest t s → ForgetsVersion s.view version line f w.view → HasNoTurn w.view
     → StaysLendable t w z
     → IsAtRest t z
@@ -162,6 +162,6 @@ rests_back t s w z version line f r is idle stays =
       dated = subst (λ (l : LogView). IsDated l.seen) (sym stays.log) (is.sees.dated r.dated);
     }
 
-pub knows_back : (t : TableSeen) (z : PassSeen) → IsAtRest t z → ViewTells z.view
+pub knows_back : (t : TableState) (z : PassState) → IsAtRest t z → ViewFacts z.view
     → KnowsItself z.view
 knows_back t z r tells = knows_itself z.view tells r.alone r.dated

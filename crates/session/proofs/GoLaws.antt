@@ -15,28 +15,28 @@ use Rattle.core_laws.specs.contents.Versions.{IsUnmarked}
 use Rattle.conformance.specs.Answers.{target_at}
 use Rattle.conformance.proofs.LineKinds.{redo_target, undo_target}
 use Rattle.retain.specs.Listing.{Found}
-use Rattle.table_rule.specs.LogTelling.{IsShownUnmarked, number_seen, seen_has}
+use Rattle.table_rule.specs.LogFacts.{IsShownUnmarked, number_seen, seen_has}
 use Rattle.table_rule.specs.LogViews.{LogView}
 use Rattle.table_rule.specs.Views.{SeatView}
 use Rattle.node_table.specs.LogChanges.{HasOpenTarget}
-use Rattle.core_laws.specs.places.Spots.{Version}
+use Rattle.core_laws.specs.places.WordIds.{Version}
 use Rattle.node_table.specs.LogTurns.{FoundMark, FoundOpen, LearnsLog, LooksForMark}
-use Rattle.node_table.specs.Seen.{PassSeen}
+use Rattle.node_table.specs.TableStates.{PassState}
 use Rattle.version_log.proofs.LookLaws.{found_looks, keeps_looks, learns_looks, looks_on}
 use Rattle.version_log.proofs.UndoLaws.{target_made, target_open}
-use Rattle.version_log.specs.declared.ahead.Ahead.{Ahead}
-use Rattle.edit_walk.specs.blocks.Blocks.{GoesBack}
+use Rattle.version_log.specs.declared.lookahead.Lookahead.{Lookahead}
+use Rattle.edit_walk.specs.blocks.Blocks.{ReturnsShare}
 use Rattle.version_log.specs.Falling.{CommitsNext}
 use Rattle.version_log.specs.declared.answers.Committed.{Committed}
 use Rattle.version_log.specs.Keeping.{OnlyKeeps}
 use Rattle.version_log.specs.Roots.{GetsRoot, HoldsRootOf}
-use Rattle.version_log.specs.Seeing.{LooksOn}
+use Rattle.version_log.specs.Seeing.{OnlyReadsLog}
 use Rattle.version_log.specs.Targets.{IsMadeNow, KnowsNext, act_target}
 use Rattle.conformance.specs.declared.sessions.calls.ActAnswer.{ActAnswer}
 use Rattle.conformance.specs.declared.sessions.calls.ActAnswer.TheVariants as acts
-use Rattle.conformance.specs.sessions.Told.{ActTold, HasFoundWay}
+use Rattle.conformance.specs.sessions.CallSpecs.{ActSpec, HasFoundTarget}
 use Rattle.session.specs.Attempts.{AnswersAct, nothing_to}
-use Rattle.session.specs.Seen.{WorldSeen, of_world, session_seen}
+use Rattle.session.specs.SessionWorlds.{SessionWorld, of_world, session_view}
 use Rattle.session.proofs.CommitLaws.{few_gained, held_by}
 use Rattle.session.proofs.KeepLaws.{fallen_room, kept_answers, pushed_held}
 use Rattle.session.proofs.SurelyLaws.{gets_from, same_number_seen}
@@ -63,11 +63,11 @@ target_is records Redo other =
     redo_target records ∙ first_is (position_after records).future
 
 -- the view looked on, and this is where the act goes by the records that are seen
-module _ (t : WorldSeen) (line : ℕ) (act : Act) (other : is_edit act ≡ false) (v z : SeatView)
-    (looks : LooksOn v z) where
+module _ (t : SessionWorld) (line : ℕ) (act : Act) (other : is_edit act ≡ false) (v z : SeatView)
+    (looks : OnlyReadsLog v z) where
   nowhere_of : (a : Act) (at : ℕ) → act ≡ a → is_edit a ≡ false → at ≡ number_seen z
       → act_target z.log.seen.records act ≡ None → (number : ℕ)
-      → ActTold (of_world t number) line act (session_seen v) (session_seen z) (nothing_to a at)
+      → ActSpec (of_world t number) line act (session_view v) (session_view z) (nothing_to a at)
   nowhere_of (Fill b) at e edit here none number = absurd (let bad : ⊥ = cc in bad)
   nowhere_of (Erase b) at e edit here none number = absurd (let bad : ⊥ = cc in bad)
   nowhere_of (Ball b) at e edit here none number = absurd (let bad : ⊥ = cc in bad)
@@ -113,21 +113,21 @@ module _ (t : WorldSeen) (line : ℕ) (act : Act) (other : is_edit act ≡ false
         listed = listed;
       }
 
-  pub late_way : number_seen z ≡ 65535 → HasFoundWay (session_seen z) act
+  pub late_way : number_seen z ≡ 65535 → HasFoundTarget (session_view z) act
       → AnswersAct t line act acts.LogFull v z
   late_way all way number one =
       let works = looks_work t.table act v z looks in
       record { all = all; nothing = works.nothing; notes = works.notes; way = way }
 
 -- the length was asked of s, which stayed as it was, and then where the act goes
-module _ (t : WorldSeen) (act : Act) (other : is_edit act ≡ false) (s a b : PassSeen) (at : ℕ)
+module _ (t : SessionWorld) (act : Act) (other : is_edit act ≡ false) (s a b : PassState) (at : ℕ)
     (to : Option ℕ) (same : a ≡ s) (here : at ≡ number_seen s.view)
     (target : to ≡ act_target a.view.log.seen.records act) (learns : LearnsLog a.view b.view)
   where
     learns_here : LearnsLog s.view b.view
-    learns_here = subst (λ (x : PassSeen). LearnsLog x.view b.view) same learns
+    learns_here = subst (λ (x : PassState). LearnsLog x.view b.view) same learns
 
-    pub asked_looks : LooksOn s.view b.view
+    pub asked_looks : OnlyReadsLog s.view b.view
     asked_looks = learns_looks s.view b.view learns_here
 
     pub asked_held : b.view.held ≡ s.view.held
@@ -155,9 +155,9 @@ module _ (t : WorldSeen) (act : Act) (other : is_edit act ≡ false) (s a b : Pa
         (asked_target ∙ none))
 
     -- there is a version to go to, which was looked at
-    module _ (k : ℕ) (some : to ≡ Some k) (c : PassSeen) (m : Option Mark)
+    module _ (k : ℕ) (some : to ≡ Some k) (c : PassState) (m : Option Mark)
         (found : LooksForMark b.view k m c.view) where
-      pub found_on : LooksOn s.view c.view
+      pub found_on : OnlyReadsLog s.view c.view
       found_on =
           looks_on s.view b.view c.view asked_looks (found_looks b.view k m c.view found)
 
@@ -186,8 +186,8 @@ module _ (t : WorldSeen) (act : Act) (other : is_edit act ≡ false) (s a b : Pa
         pub open_shown : IsShownUnmarked c.view k
         open_shown = open_found.shown
 
-        module _ (d : PassSeen) (keeps : OnlyKeeps c.view d.view) where
-          pub way_looks : LooksOn s.view d.view
+        module _ (d : PassState) (keeps : OnlyKeeps c.view d.view) where
+          pub way_looks : OnlyReadsLog s.view d.view
           way_looks =
               looks_on s.view c.view d.view found_on (keeps_looks c.view d.view keeps)
 
@@ -216,7 +216,7 @@ module _ (t : WorldSeen) (act : Act) (other : is_edit act ≡ false) (s a b : Pa
           pub way_open : HasOpenTarget d.view act
           way_open = target_open d.view act k way_target way_shown
 
-          pub way_known : (ahead : Ahead) → KnowsNext b.view.log.seen.records act ahead
+          pub way_known : (ahead : Lookahead) → KnowsNext b.view.log.seen.records act ahead
               → KnowsNext d.view.log.seen.records act ahead
           way_known ahead knows =
               subst (λ (rs : List Record). KnowsNext rs act ahead) (sym way_records) knows
@@ -232,7 +232,7 @@ module _ (t : WorldSeen) (act : Act) (other : is_edit act ≡ false) (s a b : Pa
               target_made d.view act k root other way_target
               (kept_root c.view d.view root k keeps holds)
 
-          pub way_found : HasFoundWay (session_seen d.view) act
+          pub way_found : HasFoundTarget (session_view d.view) act
           way_found =
               let marks : d.view.log.seen.marks ≡ b.view.log.seen.marks =
               ap (λ (l : LogView). l.seen.marks) keeps.log
@@ -263,27 +263,27 @@ module _ (t : WorldSeen) (act : Act) (other : is_edit act ≡ false) (s a b : Pa
 
 -- ---- what it comes to: the turn came, the way was found, and the turn went back
 
-module _ (t : WorldSeen) (line : ℕ) (act : Act) (v a b : SeatView) (took : LooksOn v a)
-    (looks : LooksOn a b) where
-  went_looks : LooksOn v b
+module _ (t : SessionWorld) (line : ℕ) (act : Act) (v a b : SeatView) (took : OnlyReadsLog v a)
+    (looks : OnlyReadsLog a b) where
+  went_looks : OnlyReadsLog v b
   went_looks = looks_on v a b took looks
 
   pub went_done : (root : Option Name) (c : Committed) (x y : SeatView)
-      → CommitsNext b t.keep line act root c x → session_seen y ≡ session_seen x
+      → CommitsNext b t.keep line act root c x → session_view y ≡ session_view x
       → AnswersAct t line act (acts.Done c.n) v y
   went_done root c x y made seen =
       answers_after t line act (acts.Done c.n) v b y (looks_work t.table act v b went_looks)
       (kept_answers t line act root c b x y made seen)
 
   pub went_nowhere : (answer : ActAnswer) (x : SeatView) → AnswersAct t line act answer a b
-      → session_seen x ≡ session_seen b → AnswersAct t line act answer v x
+      → session_view x ≡ session_view b → AnswersAct t line act answer v x
   went_nowhere answer x told seen =
       answers_still t line act answer v b x seen
       (answers_after t line act answer v a b (looks_work t.table act v a took) told)
 
   pub went_late : is_edit act ≡ false → (x y : SeatView) → number_seen x ≡ 65535
-      → HasFoundWay (session_seen b) act → session_seen x ≡ session_seen b
-      → session_seen y ≡ session_seen x → AnswersAct t line act acts.LogFull v y
+      → HasFoundTarget (session_view b) act → session_view x ≡ session_view b
+      → session_view y ≡ session_view x → AnswersAct t line act acts.LogFull v y
   went_late other x y all way first second =
       answers_still t line act acts.LogFull v b y (second ∙ first)
       (late_way t line act other v b went_looks (same_number_seen b x first ∙ all) way)
@@ -298,7 +298,7 @@ module _ (v a b : SeatView) (root : Option Name) (took : a.held ≡ v.held)
   way_few few = let more = few_gained v.held b.held root came_here in omega arith
 
   pub gone_held : (keep line : ℕ) (act : Act) (c : Committed) (x y : SeatView)
-      → CommitsNext b keep line act root c x → GoesBack c.fallen x.held y.held
+      → CommitsNext b keep line act root c x → ReturnsShare c.fallen x.held y.held
       → SameHeld v.held y.held
   gone_held keep line act c x y made back =
       pushed_held keep line act root c v.held b x y.held came_here made back

@@ -11,10 +11,10 @@ use Rattle.node_words.specs.declared.shapes.names.Name.{Name}
 use Rattle.node_words.specs.shapes.Tree.{Tree}
 use Rattle.node_words.specs.shapes.Weights.{number_of_trees}
 use Rattle.node_words.specs.Held.{SameHeld}
-use Rattle.edit_walk.specs.blocks.Blocks.{GoesBack, MayGoBack}
+use Rattle.edit_walk.specs.blocks.Blocks.{ReturnsShare, MayGoBack}
 use Rattle.retain.specs.Retained.{falls_out, is_marked_by}
 use Rattle.conformance.specs.Answers.{IsRecordOf, mark_of}
-use Rattle.table_rule.specs.LogTelling.{number_seen}
+use Rattle.table_rule.specs.LogFacts.{number_seen}
 use Rattle.table_rule.specs.Rules.{SameSession}
 use Rattle.table_rule.specs.Views.{SeatView}
 use Rattle.version_log.specs.Commits.{AppendsNext}
@@ -27,11 +27,11 @@ use Rattle.version_log.proofs.RootLaws.{no_root_gains}
 use Rattle.conformance.specs.declared.sessions.calls.ActAnswer.TheVariants as acts
 use Rattle.conformance.specs.sessions.Calls.{AppendsOwn, numbered_change}
 use Rattle.conformance.specs.sessions.Fallen.{PushedOut, PushesOut}
-use Rattle.conformance.specs.sessions.Seen.{SessionSeen, of_session}
-use Rattle.conformance.specs.sessions.Told.{ActDone, ActTold}
+use Rattle.conformance.specs.sessions.SessionViews.{SessionView, of_session}
+use Rattle.conformance.specs.sessions.CallSpecs.{ActDone, ActSpec}
 use Rattle.conformance.proofs.OfSessions.Fallen.{any_there}
 use Rattle.session.specs.Attempts.{AnswersAct}
-use Rattle.session.specs.Seen.{WorldSeen, of_world, session_seen}
+use Rattle.session.specs.SessionWorlds.{SessionWorld, of_world, session_view}
 use Rattle.session.proofs.CommitLaws.{appended_held, appends_knows, appends_session, back_same, done_alone, few_gained, held_itself, held_on, may_back, same_number_held}
 use Rattle.session.proofs.ForgetLaws.{own_mark}
 use Rattle.session.proofs.SeenLaws.{same_noted, sees_more}
@@ -55,7 +55,7 @@ gets_fallen (Some u) line n fallen b x (inr was) =
 -- is held as before the root was made
 pub pushed_held : (keep line : ℕ) (act : Act) (root : Option Name) (c : Committed)
     (v : List Tree) (w x : SeatView) (y : List Tree) → GetsRoot v root w.held
-    → CommitsNext w keep line act root c x → GoesBack c.fallen x.held y → SameHeld v y
+    → CommitsNext w keep line act root c x → ReturnsShare c.fallen x.held y → SameHeld v y
 pushed_held keep line act root c v w x y gains made back =
     let first = appended_held v w.held made.behind.held root gains made.appends.gone in
     let came = gets_fallen (falls_out c.n keep) line c.n c.fallen made.behind x made.falls in
@@ -80,11 +80,11 @@ has_mark n u marks m there version by_then =
     (let a = eq-eqb m.version u version in let b = le-leb m.at n by_then in rw (a, b) refl)
 
 -- what a session tells of the record, and of what came behind it
-module _ (t : WorldSeen) (number line : ℕ) (act : Act) (root : Option Name) (n : ℕ)
+module _ (t : SessionWorld) (number line : ℕ) (act : Act) (root : Option Name) (n : ℕ)
     (v b x : SeatView) (one : v.numbers ≡ number ∷ []) (appends : AppendsNext v line act root n b)
   where
-    alone : ActDone (of_session t.table.plan t.table.models number) line act (session_seen v)
-        (session_seen b) n
+    alone : ActDone (of_session t.table.plan t.table.models number) line act (session_view v)
+        (session_view b) n
     alone = done_alone t line act root n v b appends number one
 
     still_one : b.numbers ≡ number ∷ []
@@ -94,17 +94,17 @@ module _ (t : WorldSeen) (number line : ℕ) (act : Act) (root : Option Name) (n
         (own_records : x.log.records ≡ b.log.records) (made : x.made ≡ b.made)
         (met : x.met ≡ b.met)
         (pushes : PushesOut (falls_out n t.keep) (numbered_change n number line act) v.log.marks
-        (session_seen x)) where
+        (session_view x)) where
       same_records : x.log.seen.records ≡ b.log.seen.records
       same_records =
           let at : n ≡ number_seen b = alone.at_is in
           no_more b.log.seen.records x.log.seen.records knows.seen.more knows.seen.records
           (omega arith)
 
-      done_pushed : ActDone (of_world t number) line act (session_seen v)
-          (session_seen x) n
+      done_pushed : ActDone (of_world t number) line act (session_view v)
+          (session_view x) n
       done_pushed =
-          let d : AppendsOwn 0 number line act (session_seen v) (session_seen b) = alone.appends in
+          let d : AppendsOwn 0 number line act (session_view v) (session_view b) = alone.appends in
           let same : b.log.seen.records ≡ x.log.seen.records = sym same_records in
           record {
             at_is = long;
@@ -119,9 +119,9 @@ module _ (t : WorldSeen) (number line : ℕ) (act : Act) (root : Option Name) (n
                   ∙ ap (λ (rs : List Record). numbered_change (length rs) number line act
                   ∷ v.log.records) same;
               marks = subst (λ (k : ℕ). PushesOut (falls_out k t.keep)
-                  (numbered_change k number line act) v.log.marks (session_seen x)) long pushes;
+                  (numbered_change k number line act) v.log.marks (session_view x)) long pushes;
             };
-            notes = notes_none t.table.plan t.table.models act (session_seen v) (session_seen x)
+            notes = notes_none t.table.plan t.table.models act (session_view v) (session_view x)
                 (same_noted v x (made ∙ ap (λ (s : SeatView). s.made) appends.is)
                 (met ∙ ap (λ (s : SeatView). s.met) appends.is));
           }
@@ -133,14 +133,14 @@ module _ (t : WorldSeen) (number line : ℕ) (act : Act) (root : Option Name) (n
     -- the version was forgotten
     forgot_done : (u : ℕ) (fallen : Option Name) → falls_out n t.keep ≡ Some u
         → ForgetsVersion b u line (record { at = n; root = fallen }) x
-        → ActDone (of_world t number) line act (session_seen v)
-        (session_seen x) n
+        → ActDone (of_world t number) line act (session_view v)
+        (session_view x) n
     forgot_done u fallen out is =
         let mark : is.mark ≡ mark_of u n number line =
         own_mark b u n line number is.mark still_one is.own
         in
         let low : is.mark.at ≤ n = (let e = is.own.at_is in omega arith) in
-        let pushed : PushedOut u (numbered_change n number line act) v.log.marks (session_seen x) =
+        let pushed : PushedOut u (numbered_change n number line act) v.log.marks (session_view x) =
         record {
           marked = has_mark n u x.log.seen.marks is.mark is.comes is.own.version_is low;
           own = inr (is.marks ∙ ap (λ (m : Mark). m ∷ b.log.marks) mark
@@ -149,18 +149,18 @@ module _ (t : WorldSeen) (number line : ℕ) (act : Act) (root : Option Name) (n
         in
         done_pushed is.sees is.at is.records is.made is.met
         (subst (λ (o : Option ℕ). PushesOut o (numbered_change n number line act) v.log.marks
-        (session_seen x)) (sym out) pushed)
+        (session_view x)) (sym out) pushed)
 
     -- or it had a mark
     marked_done : (u : ℕ) (fallen : Option Name) → falls_out n t.keep ≡ Some u
         → WasMarked b u n fallen x
-        → ActDone (of_world t number) line act (session_seen v)
-        (session_seen x) n
+        → ActDone (of_world t number) line act (session_view v)
+        (session_view x) n
     marked_done u fallen out was =
         let l = was.looks in
         let at = was.length in
         let low : was.mark.at ≤ n = (let e = was.marked.later.1 in omega arith) in
-        let pushed : PushedOut u (numbered_change n number line act) v.log.marks (session_seen x) =
+        let pushed : PushedOut u (numbered_change n number line act) v.log.marks (session_view x) =
         record {
           marked = has_mark n u x.log.seen.marks was.mark was.marked.marked was.marked.is low;
           own = inl (l.marks ∙ own_marks);
@@ -168,15 +168,15 @@ module _ (t : WorldSeen) (number line : ℕ) (act : Act) (root : Option Name) (n
         in
         done_pushed l.sees (sym at) l.records l.made l.met
         (subst (λ (o : Option ℕ). PushesOut o (numbered_change n number line act) v.log.marks
-        (session_seen x)) (sym out) pushed)
+        (session_view x)) (sym out) pushed)
 
     -- or none fell out
     held_done : falls_out n t.keep ≡ None → x ≡ b
-        → ActDone (of_world t number) line act (session_seen v)
-        (session_seen x) n
+        → ActDone (of_world t number) line act (session_view v)
+        (session_view x) n
     held_done out same =
         subst (λ (s : SeatView). ActDone (of_world t number) line act
-        (session_seen v) (session_seen s) n) (sym same)
+        (session_view v) (session_view s) n) (sym same)
         (let d = alone in
         record {
           at_is = d.at_is;
@@ -186,27 +186,27 @@ module _ (t : WorldSeen) (number line : ℕ) (act : Act) (root : Option Name) (n
             last = d.appends.last;
             records = d.appends.records;
             marks = subst (λ (k : ℕ). PushesOut (falls_out k t.keep)
-                (numbered_change k number line act) v.log.marks (session_seen b)) d.at_is
+                (numbered_change k number line act) v.log.marks (session_view b)) d.at_is
                 (subst (λ (o : Option ℕ). PushesOut o (numbered_change n number line act)
-                v.log.marks (session_seen b)) (sym out) own_marks);
+                v.log.marks (session_view b)) (sym out) own_marks);
           };
           notes = d.notes;
         })
 
     fallen_done : (o : Option ℕ) (fallen : Option Name) → falls_out n t.keep ≡ o
         → FallsOut o line n fallen b x
-        → ActDone (of_world t number) line act (session_seen v)
-        (session_seen x) n
+        → ActDone (of_world t number) line act (session_view v)
+        (session_view x) n
     fallen_done None fallen out falls = held_done out falls.1
     fallen_done (Some u) fallen out (inl is) = forgot_done u fallen out is
     fallen_done (Some u) fallen out (inr was) = marked_done u fallen out was
 
 -- an accepted record, whose version that fell out was given back
-pub kept_answers : (t : WorldSeen) (line : ℕ) (act : Act) (root : Option Name)
+pub kept_answers : (t : SessionWorld) (line : ℕ) (act : Act) (root : Option Name)
     (c : Committed) (v x y : SeatView) → CommitsNext v t.keep line act root c x
-    → session_seen y ≡ session_seen x → AnswersAct t line act (acts.Done c.n) v y
+    → session_view y ≡ session_view x → AnswersAct t line act (acts.Done c.n) v y
 kept_answers t line act root c v x y made seen number one =
-    subst (λ (s : SessionSeen). ActTold (of_world t number) line act (session_seen v) s
+    subst (λ (s : SessionView). ActSpec (of_world t number) line act (session_view v) s
     (acts.Done c.n)) (sym seen)
     (fallen_done t number line act root c.n v made.behind x one made.appends
     (falls_out c.n t.keep) c.fallen refl made.falls)

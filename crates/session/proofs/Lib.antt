@@ -7,6 +7,8 @@ mod KeepLaws
 mod EditLaws
 mod ForgetLaws
 mod GoLaws
+mod HitLaws
+mod LentLaws
 mod MakeLaws
 mod PinLaws
 mod SameLaws

@@ -1,6 +1,6 @@
 -- What a rebuild of the newest version makes and meets, as a session tells it.
-use Rattle.std.proofs.Common.{◌≡◌, ◌-◌, ◌^◌, Bool, ℕ, Option, List, [], ◌∷◌, ◌++◌, length, refl, sym, ◌∙◌, ap, subst, arith, Ok, Err}
-use Rattle.std.specs.Prelude.{All}
+use Rattle.std.proofs.Common.{◌≡◌, ◌-◌, ◌^◌, ◌≤◌, ℕ, Option, List, [], ◌∷◌, ◌++◌, length, refl, sym, ◌∙◌, ap, subst, arith, Ok, Err}
+use Rattle.std.specs.Prelude.{All, Result}
 use Rattle.std.proofs.lemmas.List.Elements.{All-nil, All-cons, All-weaker}
 use Rattle.vox_read.specs.Contents.{Content}
 use Rattle.history_model.specs.declared.acts.Act.{Act}
@@ -11,6 +11,7 @@ use Rattle.history_model.specs.Worlds.{World}
 use Rattle.node_words.specs.declared.shapes.names.Name.{Name}
 use Rattle.node_words.specs.shapes.Shape.{Shape, ShowsCells}
 use Rattle.node_words.specs.shapes.Tree.{shape_of}
+use Rattle.node_words.specs.shapes.Weights.{number_of_trees}
 use Rattle.node_words.proofs.OfShapes.TreeLaws.{level_of}
 use Rattle.node_words.specs.declared.shares.Full.{Full}
 use Rattle.node_words.specs.Gathering.{Grew, unchanged, one}
@@ -20,20 +21,22 @@ use Rattle.node_words.proofs.OfContents.CellShapeLaws.{shape_with-canonical}
 use Rattle.node_words.specs.descent.Roots as walks
 use Rattle.edit_walk.specs.cells.Worlds.{Rebuilt, ShowsWorld, world_cells, world_shape}
 use Rattle.edit_walk.proofs.OfCells.WorldLaws.{shape_shows}
-use Rattle.hands.specs.Acts.{GrowsByAct, IsLargeFor, IsOfAct, RebuildsAct, RefusesAct}
-use Rattle.hands.specs.Made.{FailsBy, GrowsBy}
+use Rattle.act_rebuilds.specs.Acts.{IsOfAct, MadeByAct, MakesAct, MayMakeAct}
+use Rattle.act_rebuilds.specs.Drawn.{WorldModels}
+use Rattle.act_rebuilds.proofs.Rooms.{least_room}
+use Rattle.act_rebuilds.specs.Made.{FailsBy, GrowsBy}
 use Rattle.core_laws.specs.contents.Aligned.{top, world_block}
 use Rattle.conformance.specs.scripts.Keeping.{IsWanted, MakesPart}
 use Rattle.conformance.specs.possible.Needed.{made_of}
-use Rattle.table_rule.specs.LogTelling.{number_seen, seen_has}
+use Rattle.table_rule.specs.LogFacts.{number_seen, seen_has}
 use Rattle.table_rule.specs.LogViews.{LogView}
-use Rattle.table_rule.specs.Views.{seen_of}
-use Rattle.node_table.specs.Seen.{TableSeen, PassSeen}
+use Rattle.table_rule.specs.Views.{SeatView, seen_of}
+use Rattle.node_table.specs.TableStates.{TableState, PassState}
 use Rattle.version_log.specs.Roots.{HoldsRootOf}
 use Rattle.conformance.specs.sessions.Calls.{AcceptsNothing, NotesFor}
-use Rattle.hands.specs.Lendable.{IsLendable, StaysLendable}
-use Rattle.session.specs.Attempts.{FailsToMake, IsMaker, MakesNextRoot, WorksOn}
-use Rattle.session.specs.Seen.{session_seen}
+use Rattle.session.specs.Lendable.{IsLendable, StaysLendable}
+use Rattle.session.specs.Attempts.{FailsToMake, IsMaker, MakesNext, MakesNextRoot, WorksOn}
+use Rattle.session.specs.SessionWorlds.{session_view}
 use Rattle.session.proofs.AskLaws.{may_walk, shows_world}
 use Rattle.session.proofs.SeenLaws.{sees_more}
 use Rattle.session.proofs.WorkLaws.{knows_same}
@@ -54,37 +57,33 @@ grown P old _ (one {a} {new = before} p rest) = (
       each = All-cons P a r.more p r.each;
     })
 
--- the edit fits by the models of whoever makes it; the table is the world's
-pub maker_own_fits : (t u : TableSeen) (tint : Bool) (models : List Content) (act : Act) → u ≡ t
-    → IsMaker t tint models act → FitsWorld (2 ^ u.plan.side) models act
-maker_own_fits t u tint models act same m =
-    subst (λ (x : TableSeen). FitsWorld (2 ^ x.plan.side) models act) (sym same)
-    (subst (λ (ms : List Content). FitsWorld (2 ^ t.plan.side) ms act) (sym m.models_are) m.fits)
+-- so it may be made over a hand on the session, of the newest version that is seen
+pub may_make : (t : TableState) (drawn : WorldModels) (act : Act) (v h : PassState) (side : ℕ)
+    (root : Option Name) (cells : World) → IsMaker t drawn act → IsLendable t v
+    → HoldsRootOf v.view root cells → number_of_trees v.view.held ≤ 3909 → h ≡ v
+    → side ≡ t.plan.side → MayMakeAct (seen_of h.view) side root drawn act
+may_make t drawn act v h side root cells maker ready holds few same is =
+    subst (λ (n : ℕ). MayMakeAct (seen_of h.view) n root drawn act) (sym is)
+    (subst (λ (p : PassState). MayMakeAct (seen_of p.view) t.plan.side root drawn act) (sym same)
+    (record {
+      side_is = sym (ap (λ (l : Layout). l.side) ready.of.plan);
+      root_is = subst (λ (n : ℕ). walks.HoldsRoot v.view.held n root)
+          (ap (λ (l : Layout). l.side) ready.of.plan) (may_walk v.view root cells holds);
+      room = least_room act (number_of_trees v.view.held) few;
+      large = maker.large;
+      edit = maker.edit;
+      suits = maker.suits;
+      fits = subst (λ (ms : List Content). FitsWorld (2 ^ t.plan.side) ms act)
+          (sym maker.models_are) maker.fits;
+    }))
 
--- its store is large enough
-pub maker_own_large : (t u : TableSeen) (tint : Bool) (models : List Content) (act : Act) → u ≡ t
-    → IsMaker t tint models act → IsLargeFor act u.plan.side
-maker_own_large t u tint models act same m =
-    subst (λ (x : TableSeen). IsLargeFor act x.plan.side) (sym same) m.large
-
--- a root of a version may be walked
-pub next_walk : (t u : TableSeen) (v : PassSeen) (root : Option Name) (cells : World) → u ≡ t
-    → IsLendable t v → HoldsRootOf v.view root cells
-    → walks.HoldsRoot v.view.held u.plan.side root
-next_walk t u v root cells same ready h =
-    subst (λ (x : TableSeen). walks.HoldsRoot v.view.held x.plan.side root) (sym same)
-    (subst (λ (n : ℕ). walks.HoldsRoot v.view.held n root)
-    (ap (λ (l : Layout). l.side) ready.of.plan) (may_walk v.view root cells h))
-
--- of its world, where it is so of the world's table
-pub lent_as : (t u : TableSeen) (v w : PassSeen) → u ≡ t → StaysLendable u v w
-    → StaysLendable t v w
-lent_as t u v w same stays = subst (λ (x : TableSeen). StaysLendable x v w) same stays
-
-module _ (t : TableSeen) (act : Act) (tint : Bool) (models : List Content) (v w : PassSeen)
-    (maker : IsMaker t tint models act) (ready : IsLendable t v) (stays : StaysLendable t v w)
+module _ (t : TableState) (act : Act) (drawn : WorldModels) (v w : PassState)
+    (maker : IsMaker t drawn act) (ready : IsLendable t v) (stays : StaysLendable t v w)
     (base : Option Name)
     (h : HoldsRootOf v.view base (seen_has v.view (number_seen v.view))) where
+  abbrev models : List Content
+  models = drawn.models
+
   -- the newest version that is seen, and its cells
   abbrev at : ℕ
   at = number_seen v.view
@@ -153,7 +152,7 @@ module _ (t : TableSeen) (act : Act) (tint : Bool) (models : List Content) (v w 
         wanted = wanted_by s of;
       }
 
-  nothing_came : AcceptsNothing (session_seen v.view) (session_seen w.view)
+  nothing_came : AcceptsNothing (session_view v.view) (session_view w.view)
   nothing_came =
       record {
         sees = sees_more v.view w.view (knows_same v.view w.view stays.log);
@@ -162,7 +161,7 @@ module _ (t : TableSeen) (act : Act) (tint : Bool) (models : List Content) (v w 
       }
 
   grown_notes : GrowsBy Wants (seen_of v.view) (seen_of w.view)
-      → NotesFor t.plan t.models act (session_seen v.view) (session_seen w.view)
+      → NotesFor t.plan t.models act (session_view v.view) (session_view w.view)
   grown_notes g =
       let more = grown Wants v.view.made w.view.made g.made in
       record {
@@ -179,7 +178,7 @@ module _ (t : TableSeen) (act : Act) (tint : Bool) (models : List Content) (v w 
 
   abbrev failed_notes : (full : Full)
       → FailsBy Wants full.level full.bucket (seen_of v.view) (seen_of w.view)
-      → NotesFor t.plan t.models act (session_seen v.view) (session_seen w.view)
+      → NotesFor t.plan t.models act (session_view v.view) (session_view w.view)
   failed_notes full g =
       let more = grown Wants v.view.made w.view.made g.made in
       record {
@@ -198,7 +197,7 @@ module _ (t : TableSeen) (act : Act) (tint : Bool) (models : List Content) (v w 
             (number_seen v.view) (number_seen w.view) x.shape));
       }
 
-  works_by : NotesFor t.plan t.models act (session_seen v.view) (session_seen w.view)
+  works_by : NotesFor t.plan t.models act (session_view v.view) (session_view w.view)
       → WorksOn t act v.view w.view
   works_by notes =
       record {
@@ -234,32 +233,29 @@ module _ (t : TableSeen) (act : Act) (tint : Bool) (models : List Content) (v w 
       ((l i).seen.records) (length ((l i).seen.records))))
 
   makes_root : (r : Option Name)
-      → RebuildsAct (seen_of v.view) t.plan.side base models act (Ok r) (seen_of w.view)
-      → GrowsByAct (seen_of v.view) t.plan.side base models act (Ok r) (seen_of w.view)
+      → MadeByAct t.plan.side models act before r (seen_of v.view) (seen_of w.view)
       → MakesNextRoot t act r v.view w.view
-  makes_root r ok grows =
-      let b = ok before shown in
+  makes_root r b =
       record {
-        works = works_by (grown_notes (grows before shown));
+        works = works_by (grown_notes b.grows);
         made = record {
           cells = after;
-          holds = holds_made r b;
+          holds = holds_made r b.came;
           makes = record {
             each = λ q inside. ap (λ (x : World). x q) (sym after_as);
           };
         };
         gains = record {
-          tree = b.tree;
-          name = b.root;
-          loses = record { weighs = λ f. sym (b.weighs f) };
+          tree = b.came.tree;
+          name = b.came.root;
+          loses = record { weighs = λ f. sym (b.came.weighs f) };
         };
       }
 
   fails_to_make : (full : Full)
-      → RefusesAct (seen_of v.view) t.plan.side base models act (Err full) (seen_of w.view)
+      → FailsBy Wants full.level full.bucket (seen_of v.view) (seen_of w.view)
       → FailsToMake t act full v.view w.view
-  fails_to_make full refuses =
-      let g = refuses before shown in
+  fails_to_make full g =
       let x : Wanted = record { level = full.level; bucket = full.bucket; shape = g.wanted } in
       record {
         works = works_by (failed_notes full g);
@@ -275,28 +271,14 @@ module _ (t : TableSeen) (act : Act) (tint : Bool) (models : List Content) (v w 
         held = record { weighs = g.held };
       }
 
--- the same as the world's table tells it
-pub makes_root_as : (t u : TableSeen) (act : Act) (tint : Bool) (models : List Content)
-    (v w : PassSeen) → u ≡ t → IsMaker t tint models act → IsLendable t v → StaysLendable u v w
-    → (base : Option Name) → HoldsRootOf v.view base (seen_has v.view (number_seen v.view))
-    → (r : Option Name)
-    → RebuildsAct (seen_of v.view) u.plan.side base models act (Ok r) (seen_of w.view)
-    → GrowsByAct (seen_of v.view) u.plan.side base models act (Ok r) (seen_of w.view)
-    → MakesNextRoot t act r v.view w.view
-makes_root_as t u act tint models v w same maker ready stays base h r ok grows =
-    makes_root t act tint models v w maker ready (lent_as t u v w same stays) base h r
-    (subst (λ (x : TableSeen). RebuildsAct (seen_of v.view) x.plan.side base models act (Ok r)
-    (seen_of w.view)) same ok)
-    (subst (λ (x : TableSeen). GrowsByAct (seen_of v.view) x.plan.side base models act (Ok r)
-    (seen_of w.view)) same grows)
+  pub makes_next : (result : Result (Option Name) Full)
+      → MakesAct (seen_of v.view) t.plan.side base models act result (seen_of w.view)
+      → MakesNext t act result v.view w.view
+  makes_next (Ok r) made = makes_root r (made before shown)
+  makes_next (Err full) made = fails_to_make full (made before shown)
 
-pub fails_as : (t u : TableSeen) (act : Act) (tint : Bool) (models : List Content)
-    (v w : PassSeen) → u ≡ t → IsMaker t tint models act → IsLendable t v → StaysLendable u v w
-    → (base : Option Name) → HoldsRootOf v.view base (seen_has v.view (number_seen v.view))
-    → (full : Full)
-    → RefusesAct (seen_of v.view) u.plan.side base models act (Err full) (seen_of w.view)
-    → FailsToMake t act full v.view w.view
-fails_as t u act tint models v w same maker ready stays base h full refuses =
-    fails_to_make t act tint models v w maker ready (lent_as t u v w same stays) base h full
-    (subst (λ (x : TableSeen). RefusesAct (seen_of v.view) x.plan.side base models act (Err full)
-    (seen_of w.view)) same refuses)
+-- the same of a session that was left so
+pub left_next : (t : TableState) (act : Act) (result : Result (Option Name) Full) (v w x : SeatView)
+    → x ≡ w → MakesNext t act result v w → MakesNext t act result v x
+left_next t act result v w x is made =
+    subst (λ (y : SeatView). MakesNext t act result v y) (sym is) made

@@ -15,24 +15,24 @@ use Rattle.node_words.proofs.OfShapes.WeightLaws.{weight_of-there}
 use Rattle.node_words.specs.Held.{IsHeld}
 use Rattle.node_words.proofs.HeldLaws.{held_reached}
 use Rattle.node_words.specs.descent.Roots.{IsBlockOf, HoldsRoot, ForWorld, cells_of}
-use Rattle.node_table.specs.Seen.{TableSeen}
+use Rattle.node_table.specs.TableStates.{TableState}
 use Rattle.version_log.specs.declared.answers.Pinned.{Pinned}
-use Rattle.conformance.specs.sessions.Seen.{SessionSeen}
+use Rattle.conformance.specs.sessions.SessionViews.{SessionView}
 use Rattle.session.specs.Saves.{HoldsSaves, IsSavedRoot}
-use Rattle.history_model.specs.Logs.{kept_side}
-use Rattle.session.specs.Roots.{file_kept}
+use Rattle.history_model.specs.Logs.{side_of_world}
+use Rattle.session.specs.Roots.{stored_file}
 use Rattle.session.proofs.FileLaws.{shown_at}
 use Rattle.session.proofs.VoxelLaws.{file_same}
 
 -- ---- the pin in a place
 
 -- a pin among others, and its tree, which weighs no more than all of them
-record HasPinTree (of : TableSeen) (s : SessionSeen) (trees : List Tree) (p : Pinned) : Type 0 where
+record HasPinTree (of : TableState) (s : SessionView) (trees : List Tree) (p : Pinned) : Type 0 where
   tree : Tree
   is : IsSavedRoot of s p tree
   weighs : (f : Tree → ℕ) → weight_of f tree ≤ sum_by (weight_of f) trees
 
-pin_there : (of : TableSeen) (s : SessionSeen) (pins : List Pinned) (trees : List Tree) (k : ℕ)
+pin_there : (of : TableState) (s : SessionView) (pins : List Pinned) (trees : List Tree) (k : ℕ)
     (p : Pinned) → AllZip (IsSavedRoot of s) pins trees
     → slice_get pins k ≡ Some p → HasPinTree of s trees p
 pin_there of s [] [] k p are here = absurd (none-some p here)
@@ -52,7 +52,7 @@ pin_there of s (q ∷ pins) (u ∷ trees) (suc k) p are here =
           (let both = sum_by-cons (weight_of f) u trees in let w = h.weighs f in omega arith);
     }
 
-module _ (of : TableSeen) (s : SessionSeen) (held : List Tree) (pins : List Pinned) (k : ℕ)
+module _ (of : TableState) (s : SessionView) (held : List Tree) (pins : List Pinned) (k : ℕ)
     (p : Pinned) (holds : HoldsSaves of s held pins)
     (lt : k < length pins) (read : p ≡ get_or pins k p) where
   here : slice_get pins k ≡ Some p
@@ -87,19 +87,19 @@ module _ (of : TableSeen) (s : SessionSeen) (held : List Tree) (pins : List Pinn
 
   pub pin_file : {E Z : Type 0} (tint : Bool) (part : Boxed) (result : Result (Vec ℕ Z) E)
       (root : Option Name)
-      → FitsAt part.at part.size (kept_side tint (2 ^ of.plan.side)) → root ≡ p.root
+      → FitsAt part.at part.size (side_of_world tint (2 ^ of.plan.side)) → root ≡ p.root
       → IfOk result (λ file. ForWorld held of.plan.side root
-      (λ cells. file.items ≡ file_kept tint of.plan.side part cells))
+      (λ cells. file.items ≡ stored_file tint of.plan.side part cells))
       → IfOk result (λ file. (q : Pinned) → slice_get pins k ≡ Some q
-      → file.items ≡ file_kept tint of.plan.side part (store_has of.models s.log q.version))
+      → file.items ≡ stored_file tint of.plan.side part (store_has of.models s.log q.version))
   pin_file {E} {Z} tint part result root fits is told =
       go result (subst (λ (r : Option Name). IfOk result (λ file. ForWorld held of.plan.side r
-      (λ cells. file.items ≡ file_kept tint of.plan.side part cells))) is told)
+      (λ cells. file.items ≡ stored_file tint of.plan.side part cells))) is told)
     where
       go : (r : Result (Vec ℕ Z) E) → IfOk r (λ file. ForWorld held of.plan.side p.root
-          (λ cells. file.items ≡ file_kept tint of.plan.side part cells))
+          (λ cells. file.items ≡ stored_file tint of.plan.side part cells))
           → IfOk r (λ file. (q : Pinned) → slice_get pins k ≡ Some q
-          → file.items ≡ file_kept tint of.plan.side part (store_has of.models s.log q.version))
+          → file.items ≡ stored_file tint of.plan.side part (store_has of.models s.log q.version))
       go (Err e) told = tt
       go (Ok file) told = λ q at.
           told h.tree block
@@ -107,6 +107,6 @@ module _ (of : TableSeen) (s : SessionSeen) (held : List Tree) (pins : List Pinn
           (store_has of.models s.log p.version) fits
           (shown_at of.plan.side (shape_of h.tree) (store_has of.models s.log p.version) h.is.shows)
           ∙ ap
-          (λ (r : Pinned). file_kept tint of.plan.side part
+          (λ (r : Pinned). stored_file tint of.plan.side part
           (store_has of.models s.log r.version))
           (same_Some p q (sym here ∙ at))

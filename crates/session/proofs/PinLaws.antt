@@ -3,10 +3,10 @@ use Rattle.std.proofs.Common.{◌≡◌, ◌-◌, ◌^◌, ◌≤◌, ℕ, Bool,
 use Rattle.std.specs.List.{Contains}
 use Rattle.history_model.specs.declared.questions.Question.{Question}
 use Rattle.transcript.specs.declared.answers.Answer.{Answer}
-use Rattle.conformance.specs.Telling.{Tells, count}
+use Rattle.conformance.specs.QuestionAnswers.{AnswersTo, count}
 use Rattle.node_words.specs.declared.shapes.names.Name.{Name}
 use Rattle.node_words.specs.shapes.Weights.{weigh}
-use Rattle.node_words.specs.Held.{Seen}
+use Rattle.node_words.specs.Held.{StoreState}
 use Rattle.node_words.specs.Plans.{Layout}
 use Rattle.edit_walk.specs.blocks.Blocks.{MayGoBack}
 use Rattle.node_words.specs.descent.Roots as walks
@@ -16,16 +16,16 @@ use Rattle.history_model.specs.Tints.{Tints}
 use Rattle.history_model.specs.Worlds.{World}
 use Rattle.vw_cell.specs.declared.boxes.Boxed.{Boxed}
 use Rattle.vw_cell.specs.Counts.{number_in}
-use Rattle.act_rebuilds.specs.questions.TellsRoots.{TellsRoot}
-use Rattle.table_rule.specs.LogTelling.{seen_has}
+use Rattle.act_rebuilds.specs.questions.AnswersByRoots.{AnswersByRoot}
+use Rattle.table_rule.specs.LogFacts.{seen_has}
 use Rattle.table_rule.specs.LogViews.{LogView}
 use Rattle.table_rule.specs.Views.{SeatView, seen_of}
-use Rattle.node_table.specs.Seen.{TableSeen, PassSeen}
+use Rattle.node_table.specs.TableStates.{TableState, PassState}
 use Rattle.version_log.specs.declared.answers.Pinned.{Pinned}
 use Rattle.version_log.specs.Pins.{IsPinned}
-use Rattle.hands.specs.Lendable.{StaysLendable}
-use Rattle.conformance.specs.sessions.Told.{TellsKept, plainly_tinted}
-use Rattle.session.specs.Roots.{TellsHeld}
+use Rattle.session.specs.Lendable.{StaysLendable}
+use Rattle.conformance.specs.sessions.CallSpecs.{AnswersStored, plainly_tinted}
+use Rattle.session.specs.Roots.{AnswersHeld}
 use Rattle.session.specs.Saves.{cells_counted}
 use Rattle.session.specs.Resting.{IsAtRest}
 use Rattle.session.proofs.AskLaws.{kept_told, may_walk, shows_world}
@@ -33,10 +33,10 @@ use Rattle.session.proofs.CommitLaws.{holds_stays}
 
 -- the answer to a count
 counted_is : (side : ℕ) (w : World) (tints : Tints) (b : Boxed) (answer : Answer)
-    → Tells side w tints (Count b) answer → cells_counted answer ≡ number_in b w
+    → AnswersTo side w tints (Count b) answer → cells_counted answer ≡ number_in b w
 counted_is side w tints part answer (count b cells e) = e
 
-module _ (t : TableSeen) (v : PassSeen) (p : Pinned) (root : Option Name) (same : root ≡ p.root)
+module _ (t : TableState) (v : PassState) (p : Pinned) (root : Option Name) (same : root ≡ p.root)
     (r : IsAtRest t v) (is : IsPinned v.view p) where
   side_is : v.view.plan.side ≡ t.plan.side
   side_is = ap (λ (l : Layout). l.side) r.of.plan
@@ -53,17 +53,17 @@ module _ (t : TableSeen) (v : PassSeen) (p : Pinned) (root : Option Name) (same 
       (shows_world v.view p.root (seen_has v.view p.version) is.root)
 
   pub pinned_tells : (tint : Bool) (question : Question) (answer : Answer)
-      → TellsHeld tint v.view.held t.plan.side root question answer
-      → TellsKept tint (2 ^ t.plan.side) (seen_has v.view p.version) question answer
+      → AnswersHeld tint v.view.held t.plan.side root question answer
+      → AnswersStored tint (2 ^ t.plan.side) (seen_has v.view p.version) question answer
   pinned_tells tint question answer tells =
       kept_told tint v.view.held t.plan.side p.root (seen_has v.view p.version) question answer
       shows_here
-      (subst (λ (x : Option Name). TellsHeld tint v.view.held t.plan.side x question answer) same
+      (subst (λ (x : Option Name). AnswersHeld tint v.view.held t.plan.side x question answer) same
       tells)
 
   -- the store's cells are counted
   pub pinned_count : (part : Boxed) (answer : Answer) (cells : ℕ)
-      → TellsRoot v.view.held t.plan.side root (Count part) answer → cells ≡ cells_counted answer
+      → AnswersByRoot v.view.held t.plan.side root (Count part) answer → cells ≡ cells_counted answer
       → cells ≡ number_in part (seen_has v.view p.version)
   pinned_count part answer cells tells counted =
       counted
@@ -72,7 +72,7 @@ module _ (t : TableSeen) (v : PassSeen) (p : Pinned) (root : Option Name) (same 
       (pinned_tells false (Count part) answer tells)
 
 -- what is pinned stays so while nothing is seen and the same is held
-pub pinned_stays : (t : TableSeen) (v w : PassSeen) (p : Pinned) → StaysLendable t v w
+pub pinned_stays : (t : TableState) (v w : PassState) (p : Pinned) → StaysLendable t v w
     → seen_of w.view ≡ seen_of v.view → IsPinned v.view p → IsPinned w.view p
 pinned_stays t v w p stays seen k =
     let log : v.view.log ≡ w.view.log = sym stays.log in
@@ -85,7 +85,7 @@ pinned_stays t v w p stays seen k =
           stays.same.session.models stays.log k.root (record {
             weighs = λ f.
                 (let a = k.root.held.weighs f in
-                let e = ap (λ (s : Seen). weigh f s.held) seen in
+                let e = ap (λ (s : StoreState). weigh f s.held) seen in
                 omega arith);
           });
     }

@@ -4,21 +4,21 @@ use Rattle.std.specs.Prelude.{IfOk, IfErr, IsTrue, Result}
 use Rattle.vox_read.specs.Contents.{Content}
 use Rattle.history_model.specs.Stores.{stored_in}
 use Rattle.core_laws.specs.contents.Versions.{SameWorld}
-use Rattle.table_rule.specs.LogTelling.{number_seen}
+use Rattle.table_rule.specs.LogFacts.{number_seen}
 use Rattle.table_rule.specs.Views.{SeatView}
-use Rattle.version_log.specs.Sames.{IsFoundOpen, RefusesVersion, RefusesSame, TellsSame, length_told}
-use Rattle.version_log.specs.Seeing.{LooksOn}
+use Rattle.version_log.specs.Sames.{IsFoundOpen, RefusesVersion, RefusesSame, AnswersSame, length_told}
+use Rattle.version_log.specs.Seeing.{OnlyReadsLog}
 use Rattle.retain.specs.declared.comparing.SameAt.{SameAt}
 use Rattle.retain.specs.declared.comparing.SameRefused.{SameRefused}
 use Rattle.retain.specs.declared.comparing.SameRefused.TheVariants.{NoVersion, Forgotten}
 use Rattle.conformance.specs.sessions.Calls.{FindsVersion}
-use Rattle.conformance.specs.sessions.Told.{IsEqual, NamesVersion, SameTold}
-use Rattle.session.specs.Seen.{WorldSeen, of_world, session_seen}
+use Rattle.conformance.specs.sessions.CallSpecs.{IsEqual, NamesVersion, SameSpec}
+use Rattle.session.specs.SessionWorlds.{SessionWorld, of_world, session_view}
 use Rattle.session.proofs.SeenLaws.{only_sees}
 
 -- a version that was found at the length that is seen
 pub finds : (z : SeatView) (version at : ℕ) → at ≡ number_seen z → IsFoundOpen z version at
-    → FindsVersion (session_seen z) version
+    → FindsVersion (session_view z) version
 finds z version at here is =
     let now = subst (λ (k : ℕ). IsFoundOpen z version k) here is in
     record {
@@ -32,10 +32,10 @@ equal_told true P Q h to from = to (h.0 refl)
 equal_told false P Q h to from =
     λ q. absurd (let bad : false ≡ true = h.1 (from q) in cc)
 
-module _ (t : WorldSeen) (number v w : ℕ) (a b : SeatView) (looks : LooksOn a b)
+module _ (t : SessionWorld) (number v w : ℕ) (a b : SeatView) (looks : OnlyReadsLog a b)
     (models : b.models ≡ t.table.models) (side : b.log.seen.side ≡ b.plan.side) where
-  tells_same : (s : SameAt) → TellsSame v w s b
-      → SameTold (of_world t number) v w (session_seen a) (session_seen b) (Ok s)
+  tells_same : (s : SameAt) → AnswersSame v w s b
+      → SameSpec (of_world t number) v w (session_view a) (session_view b) (Ok s)
   tells_same s is =
       record {
         at_is = is.at;
@@ -53,9 +53,9 @@ module _ (t : WorldSeen) (number v w : ℕ) (a b : SeatView) (looks : LooksOn a 
       }
 
   refuses : (e : SameRefused) (u : ℕ)
-      → ((version : ℕ) → u ≡ version → NamesVersion v w (session_seen b) version)
+      → ((version : ℕ) → u ≡ version → NamesVersion v w (session_view b) version)
       → RefusesVersion u e b
-      → SameTold (of_world t number) v w (session_seen a) (session_seen b) (Err e)
+      → SameSpec (of_world t number) v w (session_view a) (session_view b) (Err e)
   refuses (NoVersion at version) u named is =
       record {
         at_is = is.0;
@@ -77,14 +77,14 @@ module _ (t : WorldSeen) (number v w : ℕ) (a b : SeatView) (looks : LooksOn a 
   told_here (Forgotten at mark) u is = is.0
 
   refuses_same : (e : SameRefused) → RefusesSame v w e b
-      → SameTold (of_world t number) v w (session_seen a) (session_seen b) (Err e)
+      → SameSpec (of_world t number) v w (session_view a) (session_view b) (Err e)
   refuses_same e (inl first) = refuses e v (λ version same. inl same) first
   refuses_same e (inr both) =
       refuses e w (λ version same. inr
       (same, finds b v (length_told e) (told_here e w both.1) both.0)) both.1
 
-  pub same_told : (r : Result SameAt SameRefused) → IfOk r (λ s. TellsSame v w s b)
+  pub same_told : (r : Result SameAt SameRefused) → IfOk r (λ s. AnswersSame v w s b)
       → IfErr r (λ e. RefusesSame v w e b)
-      → SameTold (of_world t number) v w (session_seen a) (session_seen b) r
+      → SameSpec (of_world t number) v w (session_view a) (session_view b) r
   same_told (Ok s) ok err = tells_same s ok
   same_told (Err e) ok err = refuses_same e err

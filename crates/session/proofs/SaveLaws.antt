@@ -16,29 +16,29 @@ use Rattle.node_words.specs.shapes.Weights.{weigh, weight_of, number_of_trees}
 use Rattle.node_words.specs.Gathering.{Loses, MayHold}
 use Rattle.node_words.specs.Held.{SameHeld}
 use Rattle.node_words.specs.Plans.{Layout}
-use Rattle.edit_walk.specs.blocks.Blocks.{GoesBack, MayGoBack}
+use Rattle.edit_walk.specs.blocks.Blocks.{ReturnsShare, MayGoBack}
 use Rattle.core_laws.specs.contents.Aligned.{top, world_block}
 use Rattle.conformance.specs.Answers.{asked_version}
-use Rattle.table_rule.specs.LogTelling.{seen_has}
-use Rattle.table_rule.specs.Telling.{ViewTells}
+use Rattle.table_rule.specs.LogFacts.{seen_has}
+use Rattle.table_rule.specs.ViewFacts.{ViewFacts}
 use Rattle.node_table.proofs.LogActs.{one_tree}
-use Rattle.node_table.specs.Seen.{TableSeen, PassSeen, SamePass}
+use Rattle.node_table.specs.TableStates.{TableState, PassState, SamePass}
 use Rattle.version_log.specs.Pins.{PinsVersion}
-use Rattle.version_log.specs.Seeing.{LooksOn}
+use Rattle.version_log.specs.Seeing.{OnlyReadsLog}
 use Rattle.version_log.specs.declared.answers.Pinned.{Pinned}
 use Rattle.conformance.proofs.OfSessions.SuitLaws.{store_stays}
-use Rattle.conformance.specs.sessions.Seen.{SessionSeen}
+use Rattle.conformance.specs.sessions.SessionViews.{SessionView}
 use Rattle.conformance.specs.sessions.Calls.{FindsVersion, FollowsHistory}
-use Rattle.conformance.specs.sessions.Told.{Saved}
+use Rattle.conformance.specs.sessions.CallSpecs.{Saved}
 use Rattle.session.proofs.AskLaws.{asked_as, held_or_gone}
 use Rattle.session.proofs.SameLaws.{finds}
 use Rattle.session.proofs.SeenLaws.{models_stay, only_sees}
 use Rattle.session.specs.Resting.{IsAtRest}
 use Rattle.session.specs.Saves.{AddsPin, HoldsSaves, IsSavedRoot}
-use Rattle.session.specs.Seen.{WorldSeen, of_world, session_seen}
+use Rattle.session.specs.SessionWorlds.{SessionWorld, of_world, session_view}
 
-module _ (t : WorldSeen) (asked : Option ℕ) (v w : PassSeen) (p : Pinned) (r : IsAtRest t.table v)
-    (looks : LooksOn v.view w.view) (is : PinsVersion v.view asked p w.view) where
+module _ (t : SessionWorld) (asked : Option ℕ) (v w : PassState) (p : Pinned) (r : IsAtRest t.table v)
+    (looks : OnlyReadsLog v.view w.view) (is : PinsVersion v.view asked p w.view) where
   plan_is : w.view.plan ≡ t.table.plan
   plan_is = looks.session.plan ∙ r.of.plan
 
@@ -53,18 +53,18 @@ module _ (t : WorldSeen) (asked : Option ℕ) (v w : PassSeen) (p : Pinned) (r :
   version_is = is.version ∙ asked_as asked p.moment
 
   -- the version that was saved was found, and its cells were counted
-  pub save_told : (number : ℕ) (x : PassSeen) (part : Boxed) (cells : ℕ)
-      → session_seen x.view ≡ session_seen w.view
+  pub save_told : (number : ℕ) (x : PassState) (part : Boxed) (cells : ℕ)
+      → session_view x.view ≡ session_view w.view
       → cells ≡ number_in part (seen_has w.view p.version)
-      → Saved (of_world t number) asked part (session_seen v.view) (session_seen x.view)
+      → Saved (of_world t number) asked part (session_view v.view) (session_view x.view)
       (record { at = p.moment; cells = cells })
   save_told number x part cells same counted =
-      subst (λ (s : SessionSeen). Saved (of_world t number) asked part (session_seen v.view) s
+      subst (λ (s : SessionView). Saved (of_world t number) asked part (session_view v.view) s
       (record { at = p.moment; cells = cells })) (sym same)
       (record {
         at_is = is.moment;
         only = only_sees v.view w.view looks;
-        finds = subst (λ (u : ℕ). FindsVersion (session_seen w.view) u) version_is
+        finds = subst (λ (u : ℕ). FindsVersion (session_view w.view) u) version_is
             (finds w.view p.version p.moment is.moment
             (record { there = is.pinned.version; unmarked = is.unmarked; found = is.pinned.found }));
         cells =
@@ -82,7 +82,7 @@ module _ (t : WorldSeen) (asked : Option ℕ) (v w : PassSeen) (p : Pinned) (r :
   may_have : MayHold w.view.held is.gains.tree
   may_have = record { weighs = λ f. (let l = is.gains.loses.weighs f in omega arith) }
 
-  module _ (tells : ViewTells w.view) where
+  module _ (tells : ViewFacts w.view) where
     tree_is : is.pinned.root.tree ≡ is.gains.tree
     tree_is =
         one_tree w.view is.pinned.root.tree is.gains.tree tells
@@ -102,7 +102,7 @@ module _ (t : WorldSeen) (asked : Option ℕ) (v w : PassSeen) (p : Pinned) (r :
         (subst (λ (u : Tree). ShowsCells (world_block w.view.plan.side) (shape_of u)
         (seen_has w.view p.version)) tree_is is.pinned.root.shows)))
 
-    pin_here : IsSavedRoot t.table (session_seen w.view) p is.gains.tree
+    pin_here : IsSavedRoot t.table (session_view w.view) p is.gains.tree
     pin_here = record {
       version = is.pinned.version;
       moment = is.pinned.moment;
@@ -112,19 +112,19 @@ module _ (t : WorldSeen) (asked : Option ℕ) (v w : PassSeen) (p : Pinned) (r :
       shows = shows_here;
     }
 
-    pub adds_pin : (x : PassSeen) → session_seen x.view ≡ session_seen w.view
+    pub adds_pin : (x : PassState) → session_view x.view ≡ session_view w.view
         → x.view.held ≡ w.view.held
-        → AddsPin t.table (session_seen x.view) v.view.held x.view.held p
+        → AddsPin t.table (session_view x.view) v.view.held x.view.held p
     adds_pin x same held = record {
       tree = is.gains.tree;
-      is = subst (λ (s : SessionSeen). IsSavedRoot t.table s p is.gains.tree) (sym same) pin_here;
+      is = subst (λ (s : SessionView). IsSavedRoot t.table s p is.gains.tree) (sym same) pin_here;
       gains = subst (λ (ts : List Tree). Loses ts is.gains.tree v.view.held)
           (sym held) is.gains.loses;
     }
 
 -- ---- pins with their trees
 
-module _ (of : TableSeen) (s : SessionSeen) where
+module _ (of : TableState) (s : SessionView) where
   pub pin_added : (pins : List Pinned) (trees : List Tree) (p : Pinned) (t : Tree)
       → AllZip (IsSavedRoot of s) pins trees → IsSavedRoot of s p t
       → AllZip (IsSavedRoot of s) (pins ++ p ∷ []) (trees ++ t ∷ [])
@@ -183,7 +183,7 @@ module _ (of : TableSeen) (s : SessionSeen) where
       }
 
 -- a session that has seen more keeps its pins
-pub pins_later : (of : TableSeen) (s z : SessionSeen) (pins : List Pinned) (trees : List Tree)
+pub pins_later : (of : TableState) (s z : SessionView) (pins : List Pinned) (trees : List Tree)
     → FollowsHistory s z → AllZip (IsSavedRoot of s) pins trees
     → AllZip (IsSavedRoot of z) pins trees
 pins_later of s z [] [] more are = tt
@@ -208,7 +208,7 @@ pins_later of s z (p ∷ pins) (u ∷ trees) more are = (
 
 -- ---- what is held for them
 
-pub no_pins : (of : TableSeen) (s : SessionSeen) (held : List Tree) (pins : List Pinned) → held ≡ []
+pub no_pins : (of : TableState) (s : SessionView) (held : List Tree) (pins : List Pinned) → held ≡ []
     → pins ≡ [] → HoldsSaves of s held pins
 unfolding weigh
 no_pins of s held pins none no_pin =
@@ -216,12 +216,12 @@ no_pins of s held pins none no_pin =
     (subst (λ (ts : List Tree). HoldsSaves of s ts []) (sym none)
     (record { trees = []; are = tt; weighs = λ f. refl }))
 
-pub few_held : (of : TableSeen) (s : SessionSeen) (held : List Tree) (pins : List Pinned)
+pub few_held : (of : TableState) (s : SessionView) (held : List Tree) (pins : List Pinned)
     → HoldsSaves of s held pins → number_of_trees held ≤ length pins
 few_held of s held pins h =
     (let few = pins_few of s pins h.trees h.are in let w = h.weighs (λ _. 1) in omega arith)
 
-pub still_held : (of : TableSeen) (s z : SessionSeen) (held more : List Tree) (pins : List Pinned)
+pub still_held : (of : TableState) (s z : SessionView) (held more : List Tree) (pins : List Pinned)
     → HoldsSaves of s held pins → SameHeld held more → FollowsHistory s z
     → HoldsSaves of z more pins
 still_held of s z held more pins h same sees = record {
@@ -230,7 +230,7 @@ still_held of s z held more pins h same sees = record {
   weighs = λ f. same.weighs f ∙ h.weighs f;
 }
 
-pub one_more : (of : TableSeen) (s z : SessionSeen) (held more : List Tree) (pins now : List Pinned)
+pub one_more : (of : TableState) (s z : SessionView) (held more : List Tree) (pins now : List Pinned)
     (p : Pinned) → HoldsSaves of s held pins → FollowsHistory s z → AddsPin of z held more p
     → now ≡ pins ++ p ∷ []
     → HoldsSaves of z more now
@@ -253,14 +253,14 @@ none_held : (held : List Tree) → weigh (λ _. 1) held ≡ 0 → held ≡ []
 none_held [] e = refl
 none_held (t ∷ held) e = absurd (let more = weigh-cons (λ _. 1) t held in omega arith)
 
-pub all_back : (of : TableSeen) (s : SessionSeen) (held : List Tree) (pins : List Pinned)
+pub all_back : (of : TableState) (s : SessionView) (held : List Tree) (pins : List Pinned)
     → HoldsSaves of s held pins → pins ≡ [] → held ≡ []
 all_back of s held pins h none =
     let few = few_held of s held pins h in
     let long = ap length none in
     none_held held (omega arith)
 
-module _ (of : TableSeen) (s : SessionSeen) (held : List Tree) (pins all : List Pinned)
+module _ (of : TableState) (s : SessionView) (held : List Tree) (pins all : List Pinned)
     (p : Pinned) (h : HoldsSaves of s held all) (is : all ≡ pins ++ p ∷ []) where
   last : HasLastPin of s pins p h.trees
   last = last_pin of s pins p h.trees
@@ -272,7 +272,7 @@ module _ (of : TableSeen) (s : SessionSeen) (held : List Tree) (pins all : List 
   pub last_may_go : (root : Option Name) → root ≡ p.root → MayGoBack held root
   last_may_go root same = (last.tree, last.is.name ∙ sym same, may_last)
 
-  pub last_gone : (root : Option Name) (more : List Tree) → root ≡ p.root → GoesBack root held more
+  pub last_gone : (root : Option Name) (more : List Tree) → root ≡ p.root → ReturnsShare root held more
       → HoldsSaves of s more pins
   last_gone root more same goes =
       let l = goes last.tree (last.is.name ∙ sym same) may_last in
@@ -284,7 +284,7 @@ module _ (of : TableSeen) (s : SessionSeen) (held : List Tree) (pins all : List 
       }
 
 -- the same pass over two calls
-pub passes_on : (s t u : PassSeen) → SamePass s t → SamePass t u → SamePass s u
+pub passes_on : (s t u : PassState) → SamePass s t → SamePass t u → SamePass s u
 passes_on s t u f g =
     let v = f.session in
     let z = g.session in

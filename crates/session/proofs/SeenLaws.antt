@@ -7,25 +7,25 @@ use Rattle.history_model.specs.declared.histories.Mark.{Mark}
 use Rattle.node_words.specs.shapes.Shape.{Shape}
 use Rattle.node_words.specs.Held.{Wanted}
 use Rattle.node_words.specs.Plans.{Layout}
-use Rattle.conformance.specs.Answers.{GoesOn}
+use Rattle.conformance.specs.Answers.{ExtendsLog}
 use Rattle.conformance.specs.scripts.Keeping.{MadeAndMet}
 use Rattle.table_rule.specs.LogKnowing.{OwnsIn, if_among}
-use Rattle.table_rule.specs.LogTelling.{number_seen}
-use Rattle.table_rule.specs.Telling.{ViewTells}
+use Rattle.table_rule.specs.LogFacts.{number_seen}
+use Rattle.table_rule.specs.ViewFacts.{ViewFacts}
 use Rattle.table_rule.specs.Views.{SeatView}
 use Rattle.node_table.specs.LogTurns.{HasNoTurn}
-use Rattle.node_table.specs.Seen.{TableSeen, PassSeen, BelongsTo}
-use Rattle.version_log.specs.Seeing.{IsDated, KnowsMore, LooksOn}
+use Rattle.node_table.specs.TableStates.{TableState, PassState, BelongsTo}
+use Rattle.version_log.specs.Seeing.{IsDated, KnowsMore, OnlyReadsLog}
 use Rattle.conformance.proofs.OfSessions.Gathered.{ListsOwn, marks_own}
 use Rattle.conformance.specs.sessions.Calls.{FollowsHistory, OnlySees}
-use Rattle.conformance.specs.sessions.Told.{HeadTold}
+use Rattle.conformance.specs.sessions.CallSpecs.{HeadSpec}
 use Rattle.session.specs.Resting.{IsAtRest}
-use Rattle.session.specs.Seen.{KnowsItself, log_seen, session_seen}
+use Rattle.session.specs.SessionWorlds.{KnowsItself, log_seen, session_view}
 
 all_kept : {X : Type 0} (P : X → Type 0) (xs : List X) → ((x : X) → Contains xs x → P x) → All P xs
 all_kept P xs each = All-weaker (Contains xs) P each xs (All-contains_itself xs)
 
-pub goes_on : (v w : SeatView) → KnowsMore v w → GoesOn (log_seen v.log) (log_seen w.log)
+pub goes_on : (v w : SeatView) → KnowsMore v w → ExtendsLog (log_seen v.log) (log_seen w.log)
 goes_on v w k =
     record {
       side = k.side;
@@ -35,7 +35,7 @@ goes_on v w k =
       marks = all_kept (Contains w.log.seen.marks) v.log.seen.marks k.seen.marks;
     }
 
-pub sees_more : (v w : SeatView) → KnowsMore v w → FollowsHistory (session_seen v) (session_seen w)
+pub sees_more : (v w : SeatView) → KnowsMore v w → FollowsHistory (session_view v) (session_view w)
 sees_more v w k =
     record {
       goes_on = goes_on v w k;
@@ -46,11 +46,11 @@ noted_as : List Shape → List Wanted → MadeAndMet
 noted_as made met = record { made = made; met = met }
 
 pub same_noted : (v w : SeatView) → w.made ≡ v.made → w.met ≡ v.met
-    → (session_seen w).noted ≡ (session_seen v).noted
+    → (session_view w).noted ≡ (session_view v).noted
 unfolding noted_as
 same_noted v w made met = ap (λ ms. noted_as ms w.met) made ∙ ap (λ ws. noted_as v.made ws) met
 
-pub only_sees : (v w : SeatView) → LooksOn v w → OnlySees (session_seen v) (session_seen w)
+pub only_sees : (v w : SeatView) → OnlyReadsLog v w → OnlySees (session_view v) (session_view w)
 only_sees v w l =
     record {
       nothing = record {
@@ -71,7 +71,7 @@ lists_marks number v one owns =
           ≡ sum_by (λ m. if_among ns m.session (f m)) v.log.seen.marks) one (owns.marks_are f);
     }
 
-pub knows_itself : (v : SeatView) → ViewTells v → v.log.taken ≡ [] → IsDated v.log.seen
+pub knows_itself : (v : SeatView) → ViewFacts v → v.log.taken ≡ [] → IsDated v.log.seen
     → KnowsItself v
 knows_itself v tells alone dated number one =
     let marks = marks_own number v.log.seen.marks v.log.marks
@@ -84,7 +84,7 @@ knows_itself v tells alone dated number one =
     }
 
 -- a session at rest looked at the log, and is at rest again
-pub rests : (t : TableSeen) (s z : PassSeen) → IsAtRest t s → BelongsTo t z → HasNoTurn z.view
+pub rests : (t : TableState) (s z : PassState) → IsAtRest t s → BelongsTo t z → HasNoTurn z.view
     → KnowsMore s.view z.view → IsAtRest t z
 rests t s z r of idle k =
     record {
@@ -95,21 +95,21 @@ rests t s z r of idle k =
       dated = k.dated r.dated;
     }
 
-pub rest_knows : (t : TableSeen) (s z : PassSeen) → IsAtRest t s → LooksOn s.view z.view
-    → ViewTells z.view → KnowsItself z.view
+pub rest_knows : (t : TableState) (s z : PassState) → IsAtRest t s → OnlyReadsLog s.view z.view
+    → ViewFacts z.view → KnowsItself z.view
 rest_knows t s z r l tells =
     knows_itself z.view tells (l.sees.taken ∙ r.alone) (l.sees.dated r.dated)
 
-pub head_told : (v w : SeatView) (at : ℕ) → LooksOn v w → at ≡ number_seen w
-    → HeadTold (session_seen v) (session_seen w) at
+pub head_told : (v w : SeatView) (at : ℕ) → OnlyReadsLog v w → at ≡ number_seen w
+    → HeadSpec (session_view v) (session_view w) at
 head_told v w at l here = record { at_is = here; only = only_sees v w l }
 
 -- the models and the side that a session at rest has are its world's, after a look too
-pub models_stay : (t : TableSeen) (s z : PassSeen) → IsAtRest t s → LooksOn s.view z.view
+pub models_stay : (t : TableState) (s z : PassState) → IsAtRest t s → OnlyReadsLog s.view z.view
     → z.view.models ≡ t.models
 models_stay t s z r l = l.session.models ∙ r.of.models
 
-pub side_stays : (t : TableSeen) (s z : PassSeen) → IsAtRest t s → LooksOn s.view z.view
+pub side_stays : (t : TableState) (s z : PassState) → IsAtRest t s → OnlyReadsLog s.view z.view
     → z.view.log.seen.side ≡ z.view.plan.side
 side_stays t s z r l =
     l.sees.side ∙ r.side

@@ -7,9 +7,9 @@ use Rattle.node_words.specs.shapes.Weights.{number_of_trees}
 use Rattle.node_words.proofs.HeldLaws.{Keeps}
 use Rattle.node_words.specs.declared.shares.Full.{Full}
 use Rattle.node_words.specs.Held.{SameHeld}
-use Rattle.table_rule.specs.LogTelling.{number_seen}
+use Rattle.table_rule.specs.LogFacts.{number_seen}
 use Rattle.table_rule.specs.Views.{SeatView}
-use Rattle.edit_walk.specs.blocks.Blocks.{GoesBack}
+use Rattle.edit_walk.specs.blocks.Blocks.{ReturnsShare}
 use Rattle.version_log.specs.Falling.{CommitsNext}
 use Rattle.version_log.specs.declared.answers.Committed.{Committed}
 use Rattle.version_log.specs.Finishing.{RefusesFinish}
@@ -17,9 +17,9 @@ use Rattle.version_log.specs.Roots.{GetsRoot}
 use Rattle.version_log.specs.declared.answers.SureRefused.{SureRefused}
 use Rattle.version_log.specs.declared.answers.SureRefused.TheVariants.{LogFull}
 use Rattle.conformance.specs.declared.sessions.calls.ActAnswer.TheVariants as acts
-use Rattle.conformance.specs.sessions.Seen.{SessionSeen}
+use Rattle.conformance.specs.sessions.SessionViews.{SessionView}
 use Rattle.session.specs.Attempts.{AnswersAct, FailsToMake, MakesNextRoot}
-use Rattle.session.specs.Seen.{WorldSeen, session_seen}
+use Rattle.session.specs.SessionWorlds.{SessionWorld, session_view}
 use Rattle.session.proofs.CommitLaws.{few_gained, full_answers, held_by, held_on, same_number_held}
 use Rattle.session.proofs.KeepLaws.{fallen_room, kept_answers, pushed_held}
 use Rattle.session.proofs.WorkLaws.{answers_after, answers_still}
@@ -30,14 +30,14 @@ pub finish_full : (root : Option Name) (e : SureRefused) (x : SeatView) → Refu
 finish_full root (LogFull back) x refused = refused.1
 
 -- as many records were seen
-pub same_number_seen : (w x : SeatView) → session_seen x ≡ session_seen w
+pub same_number_seen : (w x : SeatView) → session_view x ≡ session_view w
     → number_seen w ≡ number_seen x
-same_number_seen w x seen = sym (ap (λ (s : SessionSeen). length s.log.records) seen)
+same_number_seen w x seen = sym (ap (λ (s : SessionView). length s.log.records) seen)
 
 -- a bucket was full, and the turn went back
-module _ (t : WorldSeen) (line : ℕ) (act : Act) (v w : SeatView) (full : Full)
+module _ (t : SessionWorld) (line : ℕ) (act : Act) (v w : SeatView) (full : Full)
     (fails : FailsToMake t.table act full v w) (x : SeatView) where
-  pub full_made : (at : ℕ) → at ≡ number_seen x → session_seen x ≡ session_seen w
+  pub full_made : (at : ℕ) → at ≡ number_seen x → session_view x ≡ session_view w
       → AnswersAct t line act (acts.Full at full) v x
   full_made at here seen =
       answers_still t line act (acts.Full at full) v w x seen
@@ -47,19 +47,19 @@ module _ (t : WorldSeen) (line : ℕ) (act : Act) (v w : SeatView) (full : Full)
   full_held same = held_on v.held w.held x.held fails.held (held_by w.held x.held same)
 
 -- a share of the root came
-module _ (t : WorldSeen) (line : ℕ) (act : Act) (root : Option Name) (v w : SeatView)
+module _ (t : SessionWorld) (line : ℕ) (act : Act) (root : Option Name) (v w : SeatView)
     (makes : MakesNextRoot t.table act root v w) where
   pub made_few : number_of_trees v.held ≤ 3909 → number_of_trees w.held ≤ 4095
   made_few few = let more = few_gained v.held w.held root makes.gains in omega arith
 
   pub done_made : (x y : SeatView) (c : Committed) → CommitsNext w t.keep line act root c x
-      → session_seen y ≡ session_seen x → AnswersAct t line act (acts.Done c.n) v y
+      → session_view y ≡ session_view x → AnswersAct t line act (acts.Done c.n) v y
   done_made x y c made seen =
       answers_after t line act (acts.Done c.n) v w y makes.works
       (kept_answers t line act root c w x y made seen)
 
   pub done_held : (x y : SeatView) (c : Committed) → CommitsNext w t.keep line act root c x
-      → GoesBack c.fallen x.held y.held → SameHeld v.held y.held
+      → ReturnsShare c.fallen x.held y.held → SameHeld v.held y.held
   done_held x y c made back = pushed_held t.keep line act root c v.held w x y.held makes.gains made back
 
   pub done_room : (x : SeatView) (c : Committed) → CommitsNext w t.keep line act root c x

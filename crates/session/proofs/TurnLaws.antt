@@ -1,5 +1,5 @@
 -- What a session leaves that takes the log's turn, has it, and gives it back.
-use Rattle.std.proofs.Common.{◌≡◌, ◌≤◌, ◌^◌, ℕ, Option, Some, None, List, [], length, sym, ◌∙◌, ap, subst, arith}
+use Rattle.std.proofs.Common.{◌≡◌, ◌≤◌, ◌^◌, ℕ, Option, Some, None, List, length, sym, ◌∙◌, ap, subst, arith}
 use Rattle.history_model.specs.declared.acts.Act.{Act}
 use Rattle.history_model.specs.declared.histories.Mark.{Mark}
 use Rattle.history_model.specs.declared.histories.Record.{Record}
@@ -8,57 +8,57 @@ use Rattle.history_model.specs.Worlds.{World}
 use Rattle.node_words.specs.declared.shapes.names.Name.{Name}
 use Rattle.node_words.specs.shapes.Tree.{Tree}
 use Rattle.node_words.specs.shapes.Weights.{number_of_trees}
-use Rattle.core_laws.specs.places.Spots.{LogLength}
-use Rattle.table_rule.specs.LogTelling.{IsShownUnmarked, number_seen, seen_has}
+use Rattle.core_laws.specs.places.WordIds.{LogLength}
+use Rattle.table_rule.specs.LogFacts.{IsShownUnmarked, number_seen, seen_has}
 use Rattle.table_rule.specs.LogViews.{LogView}
 use Rattle.table_rule.specs.Rules.{SameSession}
 use Rattle.table_rule.specs.Views.{SeatView, known_at}
 use Rattle.node_table.specs.LogTurns.{HasLogTurn, HasNoTurn, LooksForMark, TakesLog, log_left}
-use Rattle.node_table.specs.Seen.{TableSeen, PassSeen, BelongsTo, SamePass}
+use Rattle.node_table.specs.TableStates.{TableState, PassState, BelongsTo, SamePass}
 use Rattle.version_log.proofs.LookLaws.{found_looks, keeps_looks, left_looks, looks_on}
 use Rattle.version_log.specs.Falling.{CommitsNext}
 use Rattle.version_log.specs.declared.answers.Committed.{Committed}
 use Rattle.version_log.specs.Keeping.{OnlyKeeps}
 use Rattle.version_log.specs.Roots.{GetsRoot, HoldsRootOf}
-use Rattle.version_log.specs.Seeing.{IsDated, KnowsMore, LooksOn}
-use Rattle.hands.specs.Lendable.{IsLendable, StaysLendable}
+use Rattle.version_log.specs.Seeing.{IsDated, KnowsMore, OnlyReadsLog}
+use Rattle.session.specs.Lendable.{IsLendable, StaysLendable}
 use Rattle.session.specs.Resting.{HasLog, IsAtRest}
-use Rattle.session.specs.Seen.{session_seen}
+use Rattle.session.specs.SessionWorlds.{session_view}
 use Rattle.session.proofs.KeepLaws.{commits_knows, commits_session}
 
 -- ---- the turn comes and stays; the table is the world's
 
-pub log_came : (t u : TableSeen) (v w : PassSeen) → u ≡ t → IsAtRest t v → HasLogTurn u w
-    → LooksOn v.view w.view → HasLog t w
+pub log_came : (t u : TableState) (v w : PassState) → u ≡ t → IsAtRest t v → HasLogTurn u w
+    → OnlyReadsLog v.view w.view → HasLog t w
 log_came t u v w same r turn looks =
     record {
-      turn = subst (λ (x : TableSeen). HasLogTurn x w) same turn;
+      turn = subst (λ (x : TableState). HasLogTurn x w) same turn;
       alone = looks.sees.taken ∙ r.alone;
       side = looks.sees.side ∙ r.side;
       dated = looks.sees.dated r.dated;
     }
 
-pub log_stays : (t u : TableSeen) (v w : PassSeen) → u ≡ t → HasLog t v → HasLogTurn u w
-    → LooksOn v.view w.view → HasLog t w
+pub log_stays : (t u : TableState) (v w : PassState) → u ≡ t → HasLog t v → HasLogTurn u w
+    → OnlyReadsLog v.view w.view → HasLog t w
 log_stays t u v w same h turn looks =
     record {
-      turn = subst (λ (x : TableSeen). HasLogTurn x w) same turn;
+      turn = subst (λ (x : TableState). HasLogTurn x w) same turn;
       alone = looks.sees.taken ∙ h.alone;
       side = looks.sees.side ∙ h.side;
       dated = looks.sees.dated h.dated;
     }
 
 -- the table's own turn is that of the world
-pub has_turn : (t u : TableSeen) (v w : PassSeen) → u ≡ t → w ≡ v → HasLog t v → HasLogTurn u w
+pub has_turn : (t u : TableState) (v w : PassState) → u ≡ t → w ≡ v → HasLog t v → HasLogTurn u w
 has_turn t u v w same here h =
-    subst (λ (x : PassSeen). HasLogTurn u x) (sym here)
-    (subst (λ (x : TableSeen). HasLogTurn x v) (sym same) h.turn)
+    subst (λ (x : PassState). HasLogTurn u x) (sym here)
+    (subst (λ (x : TableState). HasLogTurn x v) (sym same) h.turn)
 
 -- it is lent meanwhile
-pub log_lends : (t : TableSeen) (v : PassSeen) → HasLog t v → IsLendable t v
+pub log_lends : (t : TableState) (v : PassState) → HasLog t v → IsLendable t v
 log_lends t v h = record { of = h.turn.of; idle = h.turn.idle }
 
-pub log_lent : (t : TableSeen) (v w : PassSeen) → HasLog t v → StaysLendable t v w → HasLog t w
+pub log_lent : (t : TableState) (v w : PassState) → HasLog t v → StaysLendable t v w → HasLog t w
 log_lent t v w h stays =
     let log : w.view.log ≡ v.view.log = stays.log in
     record {
@@ -78,22 +78,22 @@ log_lent t v w h stays =
 
 -- ---- the turn goes back
 
-pub log_rests : (t u : TableSeen) (v w : PassSeen) → u ≡ t → HasLog t v → BelongsTo u w
+pub log_rests : (t u : TableState) (v w : PassState) → u ≡ t → HasLog t v → BelongsTo u w
     → HasNoTurn w.view → KnowsMore v.view w.view → IsAtRest t w
 log_rests t u v w same h of idle knows =
     record {
-      of = subst (λ (x : TableSeen). BelongsTo x w) same of;
+      of = subst (λ (x : TableState). BelongsTo x w) same of;
       idle = idle;
       alone = knows.taken ∙ h.alone;
       side = knows.side ∙ h.side;
       dated = knows.dated h.dated;
     }
 
-pub log_same : (t u : TableSeen) (v w : PassSeen) → u ≡ t → HasLog t v → BelongsTo u w
+pub log_same : (t u : TableState) (v w : PassState) → u ≡ t → HasLog t v → BelongsTo u w
     → SameSession v.view w.view → SamePass v w
 log_same t u v w same h of session =
     record {
-      table = of.table ∙ ap (λ (x : TableSeen). x.id) same ∙ sym h.turn.of.table;
+      table = of.table ∙ ap (λ (x : TableState). x.id) same ∙ sym h.turn.of.table;
       session = session;
     }
 
@@ -104,25 +104,25 @@ left_idle v w idle e =
       log = ap (λ (x : SeatView). x.log.turn) e;
     }
 
-pub left_rests : (t u : TableSeen) (v w : PassSeen) → u ≡ t → HasLog t v → BelongsTo u w
+pub left_rests : (t u : TableState) (v w : PassState) → u ≡ t → HasLog t v → BelongsTo u w
     → w.view ≡ log_left v.view → IsAtRest t w
 left_rests t u v w same h of e =
     log_rests t u v w same h of (left_idle v.view w.view h.turn.idle e)
     (left_looks v.view w.view e).sees
 
-pub left_same : (t u : TableSeen) (v w : PassSeen) → u ≡ t → HasLog t v → BelongsTo u w
+pub left_same : (t u : TableState) (v w : PassState) → u ≡ t → HasLog t v → BelongsTo u w
     → w.view ≡ log_left v.view → SamePass v w
 left_same t u v w same h of e =
     log_same t u v w same h of (left_looks v.view w.view e).session
 
-pub left_seen : (v w : SeatView) → w ≡ log_left v → session_seen w ≡ session_seen v
-left_seen v w e = ap (λ (x : SeatView). session_seen x) e
+pub left_seen : (v w : SeatView) → w ≡ log_left v → session_view w ≡ session_view v
+left_seen v w e = ap (λ (x : SeatView). session_view x) e
 
 -- and the length was asked before
-module _ (t u : TableSeen) (v a w : PassSeen) (table : u ≡ t) (same : a ≡ v) (h : HasLog t v)
+module _ (t u : TableState) (v a w : PassState) (table : u ≡ t) (same : a ≡ v) (h : HasLog t v)
     (e : w.view ≡ log_left a.view) where
   here : w.view ≡ log_left v.view
-  here = e ∙ ap (λ (x : PassSeen). log_left x.view) same
+  here = e ∙ ap (λ (x : PassState). log_left x.view) same
 
   pub leave_rests : BelongsTo u w → IsAtRest t w
   leave_rests of = left_rests t u v w table h of here
@@ -130,7 +130,7 @@ module _ (t u : TableSeen) (v a w : PassSeen) (table : u ≡ t) (same : a ≡ v)
   pub leave_same : BelongsTo u w → SamePass v w
   leave_same of = left_same t u v w table h of here
 
-  pub leave_seen : session_seen w.view ≡ session_seen v.view
+  pub leave_seen : session_view w.view ≡ session_view v.view
   leave_seen = left_seen v.view w.view here
 
   pub leave_held : w.view.held ≡ v.view.held
@@ -140,13 +140,13 @@ module _ (t u : TableSeen) (v a w : PassSeen) (table : u ≡ t) (same : a ≡ v)
   leave_at at is = is ∙ sym (ap (λ (x : SeatView). number_seen x) here)
 
 -- the record was accepted
-pub added_rests : (t u : TableSeen) (v w : PassSeen) (keep line : ℕ) (act : Act)
+pub added_rests : (t u : TableState) (v w : PassState) (keep line : ℕ) (act : Act)
     (root : Option Name) (c : Committed) → u ≡ t → HasLog t v → BelongsTo u w → HasNoTurn w.view
     → CommitsNext v.view keep line act root c w.view → IsAtRest t w
 added_rests t u v w keep line act root c same h of idle made =
     log_rests t u v w same h of idle (commits_knows keep v.view w.view line act root c made)
 
-pub added_same : (t u : TableSeen) (v w : PassSeen) (keep line : ℕ) (act : Act)
+pub added_same : (t u : TableState) (v w : PassState) (keep line : ℕ) (act : Act)
     (root : Option Name) (c : Committed) → u ≡ t → HasLog t v → BelongsTo u w
     → CommitsNext v.view keep line act root c w.view → SamePass v w
 added_same t u v w keep line act root c same h of made =
@@ -188,10 +188,10 @@ head_shown v w at (Some m) here f =
     absurd (let low = f.later.0 in let high = f.later.1 in omega arith)
 
 -- it was looked at, and a share of its root was taken: a is what the length was asked of
-module _ (v a b : PassSeen) (at : ℕ) (m : Option Mark) (same : a ≡ v)
+module _ (v a b : PassState) (at : ℕ) (m : Option Mark) (same : a ≡ v)
     (here : at ≡ number_seen v.view) (looks : LooksForMark a.view at m b.view) where
   looks_here : LooksForMark v.view at m b.view
-  looks_here = subst (λ (x : PassSeen). LooksForMark x.view at m b.view) same looks
+  looks_here = subst (λ (x : PassState). LooksForMark x.view at m b.view) same looks
 
   pub head_open : IsShownUnmarked b.view at
   head_open = head_shown v.view b.view at m here looks_here
@@ -201,13 +201,13 @@ module _ (v a b : PassSeen) (at : ℕ) (m : Option Mark) (same : a ≡ v)
       subst (λ (ts : List Tree). number_of_trees ts ≤ 4095)
       (sym (looked_held v.view b.view at m looks_here)) few
 
-  module _ (w : PassSeen) (keeps : OnlyKeeps b.view w.view) where
-    pub head_looks : LooksOn v.view w.view
+  module _ (w : PassState) (keeps : OnlyKeeps b.view w.view) where
+    pub head_looks : OnlyReadsLog v.view w.view
     head_looks =
         looks_on v.view b.view w.view (found_looks v.view at m b.view looks_here)
         (keeps_looks b.view w.view keeps)
 
-    pub head_log : (t u : TableSeen) → u ≡ t → HasLog t v → HasLogTurn u w → HasLog t w
+    pub head_log : (t u : TableState) → u ≡ t → HasLog t v → HasLogTurn u w → HasLog t w
     head_log t u table h turn = log_stays t u v w table h turn head_looks
 
     pub head_gets : (root : Option Name) → GetsRoot b.view.held root w.view.held

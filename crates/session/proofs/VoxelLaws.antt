@@ -7,14 +7,14 @@ use Rattle.vw_cell.specs.Counts.{cell_at}
 use Rattle.vw_cell.specs.Places.{FitsAt, IsInWorld, half_x, half_y, half_z}
 use Rattle.node_words.specs.Sums.{one_if}
 use Rattle.vox_read.specs.declared.voxels.Voxel.{Voxel}
-use Rattle.vox_read.specs.Contents.{IsSize, StandsInside}
+use Rattle.vox_read.specs.Contents.{IsSize, IsInsideModel}
 use Rattle.vox_write.specs.Written.{model_file}
 use Rattle.node_words.specs.contents.CellShapes.{bits_below}
 use Rattle.node_words.specs.declared.shapes.names.Name.{Name}
 use Rattle.node_words.specs.shapes.Tree.{Tree, shape_of}
 use Rattle.node_words.specs.descent.Roots.{ForWorld, HoldsRoot, cells_of}
 use Rattle.node_words.proofs.OfDescent.BlockLaws.{root_block}
-use Rattle.history_model.specs.Logs.{kept_side}
+use Rattle.history_model.specs.Logs.{side_of_world}
 use Rattle.history_model.specs.Planes.{plane_at}
 use Rattle.history_model.specs.Worlds.{World, plus}
 use Rattle.core_laws.specs.tints.Planes.{tint_in}
@@ -24,7 +24,7 @@ use Rattle.act_rebuilds.specs.Reading.{voxel_cell, with_tint}
 use Rattle.act_rebuilds.proofs.Quarters.{four_quarters, quarter_is}
 use Rattle.act_rebuilds.proofs.OfQuestions.TintTells.{box_within}
 use Rattle.session.proofs.FileLaws.{SameIn, same_voxels}
-use Rattle.session.specs.Roots.{file_kept, voxels_kept}
+use Rattle.session.specs.Roots.{stored_file, stored_voxels}
 
 -- where cells have tints, the store's side is 16 at least
 abbrev pub IsLarge : Bool → ℕ → Type 0
@@ -32,7 +32,7 @@ IsLarge tint side = tint ≡ true → 4 ≤ side
 
 -- a box of the world is one of the store's
 pub box_of_store : (tint : Bool) (side : ℕ) (b : Boxed)
-    → FitsAt b.at b.size (kept_side tint (2 ^ side)) → FitsAt b.at b.size (2 ^ side)
+    → FitsAt b.at b.size (side_of_world tint (2 ^ side)) → FitsAt b.at b.size (2 ^ side)
 box_of_store false side b fits = fits
 box_of_store true side b fits = box_within side b fits
 
@@ -95,7 +95,7 @@ four_wide (suc (suc n)) b fits = omega arith
 
 tinted_same : (side : ℕ) (b : Boxed) (f g : World)
     → FitsAt b.at b.size (2 ^ side / 4) → ((c : Cell) → IsInWorld (2 ^ side) c → f c ≡ g c)
-    → voxels_kept true side b f ≡ voxels_kept true side b g
+    → stored_voxels true side b f ≡ stored_voxels true side b g
 tinted_same side b f g fits same =
     let n : ℕ = 2 ^ (side - 2) in
     let wide : 2 ≤ side = four_wide side b fits in
@@ -113,7 +113,7 @@ tinted_same side b f g fits same =
     ap (map (with_tint n f b.at))
     (same_voxels b f g (same_in_box side b f g (box_within side b fits) same))
     ∙ mapped_same (with_tint n f b.at) (with_tint n g b.at) (voxels_of_box b g)
-    (All-weaker (StandsInside b.size) (λ v. with_tint n f b.at v ≡ with_tint n g b.at v)
+    (All-weaker (IsInsideModel b.size) (λ v. with_tint n f b.at v ≡ with_tint n g b.at v)
     (λ v i. ap (coloured_voxel v) (tint_same n f g (voxel_cell b.at v) (record {
       x = omega (arith, i.x, near.x);
       y = omega (arith, i.y, near.y);
@@ -121,17 +121,17 @@ tinted_same side b f g fits same =
     }) all)) (voxels_of_box b g) (voxels_inside b g))
 
 pub kept_same : (tint : Bool) (side : ℕ) (b : Boxed) (f g : World)
-    → FitsAt b.at b.size (kept_side tint (2 ^ side))
+    → FitsAt b.at b.size (side_of_world tint (2 ^ side))
     → ((c : Cell) → IsInWorld (2 ^ side) c → f c ≡ g c)
-    → voxels_kept tint side b f ≡ voxels_kept tint side b g
+    → stored_voxels tint side b f ≡ stored_voxels tint side b g
 kept_same false side b f g fits same =
     same_voxels b f g (same_in_box side b f g fits same)
 kept_same true side b f g fits same = tinted_same side b f g fits same
 
 pub file_same : (tint : Bool) (side : ℕ) (b : Boxed) (f g : World)
-    → FitsAt b.at b.size (kept_side tint (2 ^ side))
+    → FitsAt b.at b.size (side_of_world tint (2 ^ side))
     → ((c : Cell) → IsInWorld (2 ^ side) c → f c ≡ g c)
-    → file_kept tint side b f ≡ file_kept tint side b g
+    → stored_file tint side b f ≡ stored_file tint side b g
 file_same tint side b f g fits same =
     ap (λ (voxels : List Voxel). model_file (record { size = b.size; voxels = voxels }))
     (kept_same tint side b f g fits same)
@@ -143,33 +143,33 @@ mapped_long f [] = refl
 mapped_long f (v ∷ vs) = (let rest = mapped_long f vs in omega arith)
 
 kept_inside : (tint : Bool) (side : ℕ) (b : Boxed) (cells : World)
-    → All (StandsInside b.size) (voxels_kept tint side b cells)
+    → All (IsInsideModel b.size) (stored_voxels tint side b cells)
 kept_inside false side b cells = voxels_inside b cells
 kept_inside true side b cells =
-    All-map (StandsInside b.size) (with_tint (2 ^ (side - 2)) cells b.at) (voxels_of_box b cells)
-    (All-weaker (StandsInside b.size)
-    (λ v. StandsInside b.size (with_tint (2 ^ (side - 2)) cells b.at v))
+    All-map (IsInsideModel b.size) (with_tint (2 ^ (side - 2)) cells b.at) (voxels_of_box b cells)
+    (All-weaker (IsInsideModel b.size)
+    (λ v. IsInsideModel b.size (with_tint (2 ^ (side - 2)) cells b.at v))
     (λ v i. record { x = i.x; y = i.y; z = i.z }) (voxels_of_box b cells) (voxels_inside b cells))
 
 kept_long : (tint : Bool) (side : ℕ) (b : Boxed) (cells : World)
-    → length (voxels_kept tint side b cells) ≡ length (voxels_of_box b cells)
+    → length (stored_voxels tint side b cells) ≡ length (voxels_of_box b cells)
 kept_long false side b cells = refl
 kept_long true side b cells =
     mapped_long (with_tint (2 ^ (side - 2)) cells b.at) (voxels_of_box b cells)
 
 -- a box of the world has a model's size
 pub kept_size : (tint : Bool) (side : ℕ) (b : Boxed)
-    → FitsAt b.at b.size (kept_side tint (2 ^ side))
+    → FitsAt b.at b.size (side_of_world tint (2 ^ side))
     → (b.size.x ≤ 256) × (b.size.y ≤ 256) × (b.size.z ≤ 256) → IsSize b.size
-kept_size tint side b fits small = is_size (kept_side tint (2 ^ side)) b fits small
+kept_size tint side b fits small = is_size (side_of_world tint (2 ^ side)) b fits small
 
 module _ (tint : Bool) (held : List Tree) (side : ℕ) (root : Option Name) (b : Boxed)
     (voxels : List Voxel)
-    (told : ForWorld held side root (λ cells. voxels ≡ [] ++ voxels_kept tint side b cells)) where
-  pub told_inside : HoldsRoot held side root → All (StandsInside b.size) voxels
+    (told : ForWorld held side root (λ cells. voxels ≡ [] ++ stored_voxels tint side b cells)) where
+  pub told_inside : HoldsRoot held side root → All (IsInsideModel b.size) voxels
   told_inside holds =
       let block = root_block held side root holds in
-      subst (λ (vs : List Voxel). All (StandsInside b.size) vs)
+      subst (λ (vs : List Voxel). All (IsInsideModel b.size) vs)
       (sym (told block.tree block.is_block))
       (kept_inside tint side b (cells_of (side - 2) (shape_of block.tree)))
 

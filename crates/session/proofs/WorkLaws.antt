@@ -8,7 +8,7 @@ use Rattle.history_model.specs.declared.histories.Mark.{Mark}
 use Rattle.history_model.specs.Logs.{Log}
 use Rattle.node_words.specs.shapes.Shape.{Shape}
 use Rattle.node_words.specs.Plans.{Layout}
-use Rattle.conformance.specs.Answers.{GoesOn}
+use Rattle.conformance.specs.Answers.{ExtendsLog}
 use Rattle.conformance.specs.Shown.{Accepted}
 use Rattle.conformance.specs.scripts.Keeping.{MadeAndMet, MakesPart}
 use Rattle.conformance.proofs.OfScripts.Refusals.{wanted_stays}
@@ -16,23 +16,23 @@ use Rattle.table_rule.specs.LogKnowing.{IsPrefix}
 use Rattle.table_rule.specs.LogViews.{LogView}
 use Rattle.table_rule.specs.Rules.{SameSession}
 use Rattle.table_rule.specs.Views.{SeatView}
-use Rattle.node_table.specs.Seen.{TableSeen}
+use Rattle.node_table.specs.TableStates.{TableState}
 use Rattle.version_log.proofs.LookLaws.{begins_itself, begins_on}
-use Rattle.version_log.specs.Seeing.{FoundStays, IsDated, KnowsMore, LooksOn}
+use Rattle.version_log.specs.Seeing.{KeepsFound, IsDated, KnowsMore, OnlyReadsLog}
 use Rattle.conformance.specs.declared.sessions.calls.ActAnswer.{ActAnswer}
 use Rattle.conformance.specs.declared.sessions.calls.ActAnswer.TheVariants as acts
 use Rattle.retain.specs.Retained.{falls_out}
 use Rattle.conformance.specs.sessions.Calls.{AcceptsNothing, AppendsOwn, MeetsFullBucket, NotesFor, FollowsHistory, numbered_change}
 use Rattle.conformance.specs.sessions.Fallen.{PushesOut}
-use Rattle.conformance.specs.sessions.Seen.{SessionSeen}
-use Rattle.conformance.specs.sessions.Told.{ActTold}
+use Rattle.conformance.specs.sessions.SessionViews.{SessionView}
+use Rattle.conformance.specs.sessions.CallSpecs.{ActSpec}
 use Rattle.session.specs.Attempts.{AnswersAct, WorksOn}
-use Rattle.session.specs.Seen.{WorldSeen, of_world, session_seen}
+use Rattle.session.specs.SessionWorlds.{SessionWorld, of_world, session_view}
 use Rattle.session.proofs.SeenLaws.{only_sees}
 
 -- ---- histories that go on
 
-goes_through : (a b c : Log) → GoesOn a b → GoesOn b c → GoesOn a c
+goes_through : (a b c : Log) → ExtendsLog a b → ExtendsLog b c → ExtendsLog a c
 goes_through a b c f g =
     record {
       side = g.side ∙ f.side;
@@ -44,7 +44,7 @@ goes_through a b c f g =
           (λ m here. All-contains (Contains c.marks) b.marks m g.marks here) a.marks f.marks;
     }
 
-longer : (a b : Log) → GoesOn a b → length a.records ≤ length b.records
+longer : (a b : Log) → ExtendsLog a b → length a.records ≤ length b.records
 longer a b g =
     let more : length b.records ≡ length (a.records ++ g.more) = ap length g.records in
     let both = length-append a.records g.more in
@@ -52,7 +52,7 @@ longer a b g =
 
 -- ---- two parts of what a session saw and did
 
-module _ (p : Layout) (models : List Content) (act : Act) (a b c : SessionSeen)
+module _ (p : Layout) (models : List Content) (act : Act) (a b c : SessionView)
     (nothing : AcceptsNothing a b) where
   sees_on : FollowsHistory b c → FollowsHistory a c
   sees_on m =
@@ -79,7 +79,7 @@ module _ (p : Layout) (models : List Content) (act : Act) (a b c : SessionSeen)
       let more = longer a.log b.log nothing.sees.goes_on in
       record { version = m.version; low = omega arith; high = m.high; wanted = m.wanted }
 
-  pub part_to : GoesOn b.log c.log → (s : Shape)
+  pub part_to : ExtendsLog b.log c.log → (s : Shape)
       → MakesPart p models b.log.records act (length a.log.records) (length b.log.records) s
       → MakesPart p models c.log.records act (length a.log.records) (length c.log.records) s
   part_to g s m =
@@ -92,7 +92,7 @@ module _ (p : Layout) (models : List Content) (act : Act) (a b c : SessionSeen)
         wanted = wanted_stays p models b.log c.log g act m.version s m.high m.wanted;
       }
 
-  abbrev pub notes_on : GoesOn b.log c.log → NotesFor p models act a b → NotesFor p models act b c
+  abbrev pub notes_on : ExtendsLog b.log c.log → NotesFor p models act a b → NotesFor p models act b c
       → NotesFor p models act a c
   notes_on g notes n =
       record {
@@ -129,7 +129,7 @@ module _ (p : Layout) (models : List Content) (act : Act) (a b c : SessionSeen)
             notes.wanted);
       }
 
-  meets_on : (level bucket : ℕ) → GoesOn b.log c.log → NotesFor p models act a b
+  meets_on : (level bucket : ℕ) → ExtendsLog b.log c.log → NotesFor p models act a b
       → MeetsFullBucket p models act level bucket b c
       → MeetsFullBucket p models act level bucket a c
   meets_on level bucket g notes m =
@@ -166,11 +166,11 @@ module _ (p : Layout) (models : List Content) (act : Act) (a b c : SessionSeen)
 
 -- ---- an answer after some work
 
-module _ (t : WorldSeen) (number line : ℕ) (act : Act) (a b c : SessionSeen)
+module _ (t : SessionWorld) (number line : ℕ) (act : Act) (a b c : SessionView)
     (nothing : AcceptsNothing a b)
     (notes : NotesFor t.table.plan t.table.models act a b) where
-  pub told_after : (answer : ActAnswer) → ActTold (of_world t number) line act b c answer
-      → ActTold (of_world t number) line act a c answer
+  pub told_after : (answer : ActAnswer) → ActSpec (of_world t number) line act b c answer
+      → ActSpec (of_world t number) line act a c answer
   told_after (acts.Done n) x =
       record {
         at_is = x.at_is;
@@ -250,24 +250,24 @@ knows_same v w e =
       side = ap (λ (l : LogView). l.seen.side) e;
       dated = subst (λ (l : LogView). IsDated l.seen) (sym e);
       taken = ap (λ (l : LogView). l.taken) e;
-      found = subst (λ (l : LogView). FoundStays v.log.found l.found) (sym e)
+      found = subst (λ (l : LogView). KeepsFound v.log.found l.found) (sym e)
           (record { each = λ f c. c });
     }
 
-pub works_on : (t : TableSeen) (act : Act) (u v w : SeatView) → WorksOn t act u v
+pub works_on : (t : TableState) (act : Act) (u v w : SeatView) → WorksOn t act u v
     → WorksOn t act v w → WorksOn t act u w
 works_on t act u v w f g =
     record {
       session = session_on u v w f.session g.session;
       sees = knows_on u v w f.sees g.sees;
-      nothing = nothing_on t.plan t.models act (session_seen u) (session_seen v) (session_seen w)
+      nothing = nothing_on t.plan t.models act (session_view u) (session_view v) (session_view w)
           f.nothing g.nothing;
-      notes = notes_on t.plan t.models act (session_seen u) (session_seen v) (session_seen w)
+      notes = notes_on t.plan t.models act (session_view u) (session_view v) (session_view w)
           f.nothing g.nothing.sees.goes_on f.notes g.notes;
     }
 
 -- nothing was made or met
-pub notes_none : (p : Layout) (models : List Content) (act : Act) (a b : SessionSeen)
+pub notes_none : (p : Layout) (models : List Content) (act : Act) (a b : SessionView)
     → b.noted ≡ a.noted → NotesFor p models act a b
 notes_none p models act a b same =
     record {
@@ -281,27 +281,27 @@ notes_none p models act a b same =
           (length b.log.records) w.shape);
     }
 
-pub looks_work : (t : TableSeen) (act : Act) (v w : SeatView) → LooksOn v w → WorksOn t act v w
+pub looks_work : (t : TableState) (act : Act) (v w : SeatView) → OnlyReadsLog v w → WorksOn t act v w
 looks_work t act v w l =
     let only = only_sees v w l in
     record {
       session = l.session;
       sees = l.sees;
       nothing = only.nothing;
-      notes = notes_none t.plan t.models act (session_seen v) (session_seen w) only.noted;
+      notes = notes_none t.plan t.models act (session_view v) (session_view w) only.noted;
     }
 
 -- what was answered after some work is the answer from before it
-pub answers_after : (t : WorldSeen) (line : ℕ) (act : Act) (answer : ActAnswer) (u v w : SeatView)
+pub answers_after : (t : SessionWorld) (line : ℕ) (act : Act) (answer : ActAnswer) (u v w : SeatView)
     → WorksOn t.table act u v → AnswersAct t line act answer v w → AnswersAct t line act answer u w
 answers_after t line act answer u v w f g number one =
-    told_after t number line act (session_seen u) (session_seen v) (session_seen w) f.nothing
+    told_after t number line act (session_view u) (session_view v) (session_view w) f.nothing
     f.notes answer (g number (f.session.numbers ∙ one))
 
 -- and it stays so while the session sees and does nothing more
-pub answers_still : (t : WorldSeen) (line : ℕ) (act : Act) (answer : ActAnswer)
-    (v w x : SeatView) → session_seen x ≡ session_seen w → AnswersAct t line act answer v w
+pub answers_still : (t : SessionWorld) (line : ℕ) (act : Act) (answer : ActAnswer)
+    (v w x : SeatView) → session_view x ≡ session_view w → AnswersAct t line act answer v w
     → AnswersAct t line act answer v x
 answers_still t line act answer v w x same g number one =
-    subst (λ (s : SessionSeen). ActTold (of_world t number) line act (session_seen v) s answer)
+    subst (λ (s : SessionView). ActSpec (of_world t number) line act (session_view v) s answer)
     (sym same) (g number one)

@@ -1,12 +1,14 @@
-pub mod Seen
+pub mod SessionWorlds
+pub mod Lendable
+pub mod Lent
 pub mod Resting
+pub mod Begun
 pub mod Attempts
 pub mod Roots
 pub mod Closes
 pub mod Saves
-pub mod Desks
+pub mod Responders
 pub mod Scripts
-pub use Rattle.hands.specs.Lendable
 pub use Rattle.version_log.specs.declared.answers.Pinned
 pub use Rattle.version_log.specs.Seeing
 pub use Rattle.extract.specs.Saved

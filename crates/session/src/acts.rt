@@ -1,27 +1,24 @@
 //! Changes of a world: edits, undos and redos, and one attempt at an edit.
-ghost use Rattle.std.specs.Prelude.{◌≡◌, ◌≤◌, ◌∷◌, [], ℕ, true};
-ghost use Rattle.hands.specs.Balls.{ball_act};
-ghost use Rattle.hands.specs.Boxes.{box_act};
+ghost use Rattle.std.specs.Prelude.{◌≡◌, ◌∷◌, [], ℕ};
+ghost use Rattle.act_rebuilds.specs.Balls.{ball_act};
+ghost use Rattle.act_rebuilds.specs.Boxes.{box_act};
 ghost use Rattle.history_model.specs.declared.acts.Act.TheVariants.{Copy};
-ghost use Rattle.history_model.specs.Worlds.{is_edit};
-ghost use Rattle.node_words.specs.shapes.Weights.{number_of_trees};
-ghost use Rattle.node_words.specs.Held.{SameHeld};
-ghost use Rattle.node_table.specs.Seen.{SamePass};
-ghost use Rattle.conformance.specs.sessions.Told.{ActTold, OnceTold};
-ghost use Rattle.session.specs.Attempts.{AnswersAct, AnswersOnce, IsMaker, act_answer, once_answer};
-ghost use Rattle.session.specs.Resting.{Calls, IsAtRest, IsBlankOf, IsReady};
-ghost use Rattle.session.specs.Seen.{IsActOf, KnowsItself, of_world, session_seen};
+ghost use Rattle.conformance.specs.sessions.CallSpecs.{ActSpec, OnceSpec};
+ghost use Rattle.session.specs.Attempts.{AnswersAct, AnswersOnce, MayBeMade, act_answer, once_answer};
+ghost use Rattle.session.specs.Resting.{Calls, IsBlankOf, IsReady};
+ghost use Rattle.session.specs.SessionWorlds.{IsActOf, IsEditOf, KnowsItself, of_world, session_view};
 
-use crate::attempts::{EditAnswer, Late};
+use crate::attempts::{EditAnswer, StaleRoot};
+use crate::contexts::{CallContext, CallStart};
 use crate::world::{Session, World};
+use act_rebuilds::{ActMaker, AnyAct, BallAct, BoxAct, CopyAct, box_may_repeat, copy_may_repeat};
 use conformance::{ActAnswer, OnceAnswer};
 use gate_run::Gate;
-use hands::{ActMaker, AnyAct, BallAct, BoxAct, CopyAct, box_may_repeat, copy_may_repeat};
 use history_model::Act;
-use node_words::{Share, Steps};
+use node_words::Share;
 use std::marker::Brand;
 use std::sync::Wait;
-use std::sync::ledger::{Blank, Ledger};
+use std::sync::ledger::Ledger;
 use version_log::Pinned;
 use vw_cell::{Ball, Boxed, Cell};
 
@@ -60,7 +57,7 @@ fn taken(p: Pinned) -> Option<Share>
     root
 }
 
-impl<'m> World<'m> {
+impl World {
     /// Carries the act out, as the newest record. An edit whose first attempt comes too late is
     /// made again while no other session commits, so this is never `Stale`.
     ///
@@ -73,49 +70,43 @@ impl<'m> World<'m> {
         act: &Act,
         gate: &G,
     ) -> ActAnswer
-        requires rest { IsAtRest self.now.table s.old }
+        requires ready { IsReady self.now.table 3900 s.old }
         requires fits { IsActOf self.now act.now }
-        requires room { number_of_trees s.old.view.held ≤ 3900 }
-        ensures rest { IsAtRest self.now.table s.new }
-        ensures same { SamePass s.old s.new }
-        ensures held { SameHeld s.old.view.held s.new.view.held }
-        ensures told { (number : ℕ) → s.old.view.numbers ≡ number ∷ [] → ActTold
-            (of_world self.now number) line act.now (session_seen s.old.view)
-            (session_seen s.new.view) result }
+        ensures calls { Calls self.now.table s.old s.new }
+        ensures told { (number : ℕ) → s.old.view.numbers ≡ number ∷ [] → ActSpec
+            (of_world self.now number) line act.now (session_view s.old.view)
+            (session_view s.new.view) result }
         ensures knows { KnowsItself s.new.view }
     {
-        let answer = self.act_on::<R, G, Brand>(rt, s, line, act, gate, Blank::new(1));
+        let start = CallStart::new(rt, gate);
+        let answer = self.act_on::<R, G, Brand>(s, start, line, act);
         s.tell();
         answer
     }
 
     fn act_on<R: Wait, G: Gate, L: Ledger>(
         &self,
-        rt: &R,
         s: &mut Session,
+        start: CallStart<'_, R, G>,
         line: u32,
         act: &Act,
-        gate: &G,
-        blank: Blank,
     ) -> ActAnswer
         requires ready { IsReady self.now.table 3900 s.old }
         requires fits { IsActOf self.now act.now }
-        requires blank { IsBlankOf blank.name blank.parts L.name L.parts }
+        requires blank { IsBlankOf start.blank.name start.blank.parts L.name L.parts }
         ensures calls { Calls self.now.table s.old s.new }
         ensures told { AnswersAct self.now line act.now result s.old.view s.new.view }
     {
-        let mut steps: Steps<L> = Steps::start(blank);
-        self.carry_out(rt, s, line, act, gate, &mut steps)
+        let mut call = start.open::<L>();
+        self.carry_out(s, &mut call, line, act)
     }
 
     fn carry_out<R: Wait, G: Gate, L: Ledger>(
         &self,
-        rt: &R,
         s: &mut Session,
+        call: &mut CallContext<'_, R, G, L>,
         line: u32,
         act: &Act,
-        gate: &G,
-        steps: &mut Steps<L>,
     ) -> ActAnswer
         requires ready { IsReady self.now.table 3900 s.old }
         requires fits { IsActOf self.now act.now }
@@ -123,13 +114,13 @@ impl<'m> World<'m> {
         ensures told { AnswersAct self.now line act.now result s.old.view s.new.view }
     {
         match act {
-            Act::Undo | Act::Redo => self.go(rt, s, line, act, steps),
-            Act::Fill(b) => self.edit_box(rt, s, line, act, *b, true, gate, steps),
-            Act::Erase(b) => self.edit_box(rt, s, line, act, *b, false, gate, steps),
-            Act::Ball(ball) => self.edit_ball(rt, s, line, act, ball, true, gate, steps),
-            Act::Carve(ball) => self.edit_ball(rt, s, line, act, ball, false, gate, steps),
-            Act::Copy(from, to) => self.edit_copy(rt, s, line, act, *from, *to, gate, steps),
-            Act::Stamp(_, _) | Act::Tint(_) => self.edit_anew(rt, s, line, act, gate, steps),
+            Act::Undo | Act::Redo => self.go(s, call, line, act),
+            Act::Fill(b) => self.edit_box(s, call, line, act, *b, true),
+            Act::Erase(b) => self.edit_box(s, call, line, act, *b, false),
+            Act::Ball(ball) => self.edit_ball(s, call, line, act, ball, true),
+            Act::Carve(ball) => self.edit_ball(s, call, line, act, ball, false),
+            Act::Copy(from, to) => self.edit_copy(s, call, line, act, *from, *to),
+            Act::Stamp(_, _) | Act::Tint(_) => self.edit_anew(s, call, line, act),
         }
     }
 
@@ -137,39 +128,34 @@ impl<'m> World<'m> {
     // is made again.
     fn edit_anew<R: Wait, G: Gate, L: Ledger>(
         &self,
-        rt: &R,
         s: &mut Session,
+        call: &mut CallContext<'_, R, G, L>,
         line: u32,
         act: &Act,
-        gate: &G,
-        steps: &mut Steps<L>,
     ) -> ActAnswer
         requires ready { IsReady self.now.table 3900 s.old }
-        requires edit { is_edit act.now ≡ true }
-        requires fits { IsActOf self.now act.now }
+        requires edit { IsEditOf self.now act.now }
         ensures calls { Calls self.now.table s.old s.new }
         ensures told { AnswersAct self.now line act.now result s.old.view s.new.view }
     {
-        match self.attempt_anew(rt, s, line, act, gate, steps) {
+        match self.attempt_anew(s, call, line, act) {
             OnceAnswer::Done { n } => ActAnswer::Done { n },
             OnceAnswer::Full { at, full } => ActAnswer::Full { at, full },
             OnceAnswer::LogFull => ActAnswer::LogFull,
-            OnceAnswer::Stale { at: _, base: _ } => self.surely_anew(rt, s, line, act, steps),
+            OnceAnswer::Stale { at: _, base: _ } => self.surely_anew(s, call, line, act),
         }
     }
 
     // An edit that is made anew, under the log's turn.
-    fn surely_anew<R: Wait, L: Ledger>(
+    fn surely_anew<R: Wait, G, L: Ledger>(
         &self,
-        rt: &R,
         s: &mut Session,
+        call: &mut CallContext<'_, R, G, L>,
         line: u32,
         act: &Act,
-        steps: &mut Steps<L>,
     ) -> ActAnswer
         requires ready { IsReady self.now.table 3900 s.old }
-        requires edit { is_edit act.now ≡ true }
-        requires fits { IsActOf self.now act.now }
+        requires edit { IsEditOf self.now act.now }
         ensures calls { Calls self.now.table s.old s.new }
         ensures told { AnswersAct self.now line act.now result s.old.view s.new.view }
     {
@@ -177,120 +163,108 @@ impl<'m> World<'m> {
             models: &self.drawn,
             edit: *act,
         };
-        act_answer(self.edit_surely(rt, s, line, &mut maker, steps))
+        act_answer(self.edit_surely(s, call, line, &mut maker))
     }
 
     // A box. Of a large one the second attempt takes over what the first one made.
     fn edit_box<R: Wait, G: Gate, L: Ledger>(
         &self,
-        rt: &R,
         s: &mut Session,
+        call: &mut CallContext<'_, R, G, L>,
         line: u32,
         act: &Act,
         b: Boxed,
         set: bool,
-        gate: &G,
-        steps: &mut Steps<L>,
     ) -> ActAnswer
         requires ready { IsReady self.now.table 3900 s.old }
         requires act { act.now ≡ box_act set b }
-        requires edit { is_edit act.now ≡ true }
-        requires fits { IsActOf self.now act.now }
+        requires edit { IsEditOf self.now act.now }
         ensures calls { Calls self.now.table s.old s.new }
         ensures told { AnswersAct self.now line act.now result s.old.view s.new.view }
     {
         if !box_may_repeat(b.size, self.plan().side()) {
-            return self.edit_anew(rt, s, line, act, gate, steps);
+            return self.edit_anew(s, call, line, act);
         }
         let mut maker = BoxAct::new(&self.drawn, b, set);
-        self.edit(rt, s, line, act, &mut maker, gate, steps)
+        self.edit(s, call, line, act, &mut maker)
     }
 
     // A ball, and so of a large one.
     fn edit_ball<R: Wait, G: Gate, L: Ledger>(
         &self,
-        rt: &R,
         s: &mut Session,
+        call: &mut CallContext<'_, R, G, L>,
         line: u32,
         act: &Act,
         ball: &Ball,
         set: bool,
-        gate: &G,
-        steps: &mut Steps<L>,
     ) -> ActAnswer
         requires ready { IsReady self.now.table 3900 s.old }
         requires act { act.now ≡ ball_act set ball.now }
-        requires edit { is_edit act.now ≡ true }
-        requires fits { IsActOf self.now act.now }
+        requires edit { IsEditOf self.now act.now }
         ensures calls { Calls self.now.table s.old s.new }
         ensures told { AnswersAct self.now line act.now result s.old.view s.new.view }
     {
         if ball.radius < FEW {
-            return self.edit_anew(rt, s, line, act, gate, steps);
+            return self.edit_anew(s, call, line, act);
         }
         let mut maker = BallAct::new(&self.drawn, ball, set);
-        self.edit(rt, s, line, act, &mut maker, gate, steps)
+        self.edit(s, call, line, act, &mut maker)
     }
 
     // A copy, and so of a large one.
     fn edit_copy<R: Wait, G: Gate, L: Ledger>(
         &self,
-        rt: &R,
         s: &mut Session,
+        call: &mut CallContext<'_, R, G, L>,
         line: u32,
         act: &Act,
         from: Boxed,
         to: Cell,
-        gate: &G,
-        steps: &mut Steps<L>,
     ) -> ActAnswer
         requires ready { IsReady self.now.table 3900 s.old }
         requires act { act.now ≡ Copy from to }
-        requires edit { is_edit act.now ≡ true }
-        requires fits { IsActOf self.now act.now }
+        requires edit { IsEditOf self.now act.now }
         ensures calls { Calls self.now.table s.old s.new }
         ensures told { AnswersAct self.now line act.now result s.old.view s.new.view }
     {
         if !copy_may_repeat(from.size) {
-            return self.edit_anew(rt, s, line, act, gate, steps);
+            return self.edit_anew(s, call, line, act);
         }
         let mut maker = CopyAct::new(&self.drawn, from, to);
-        self.edit(rt, s, line, act, &mut maker, gate, steps)
+        self.edit(s, call, line, act, &mut maker)
     }
 
     // An edit whose second attempt, under the log's turn, takes over what the first one made, which
     // stays held for that. Where a bucket is full then, all goes back and it is made once more.
     fn edit<M: ActMaker, R: Wait, G: Gate, L: Ledger>(
         &self,
-        rt: &R,
         s: &mut Session,
+        call: &mut CallContext<'_, R, G, L>,
         line: u32,
         act: &Act,
         maker: &mut M,
-        gate: &G,
-        steps: &mut Steps<L>,
     ) -> ActAnswer
         requires ready { IsReady self.now.table 3900 s.old }
         requires fits { IsActOf self.now act.now }
         requires act { M.act maker.old ≡ act.now }
-        requires maker { IsMaker self.now.table (M.tint maker.old) (M.models maker.old)
-            (M.act maker.old) }
-        requires recalls { M.recalls maker.old s.old.view.held }
+        requires maker { MayBeMade self.now.table (M.drawn maker.old) (M.act maker.old)
+            (M.recalls maker.old s.old.view.held) }
         ensures calls { Calls self.now.table s.old s.new }
         ensures told { AnswersAct self.now line act.now result s.old.view s.new.view }
     {
-        let base = self.pin_head(rt, s, steps);
-        match self.attempt(rt, s, &base, line, maker, gate, steps) {
+        let base = self.pin_head(s, call);
+        match self.attempt(s, call, &base, line, maker) {
             Ok(answer) => {
-                self.give_root(rt, s, taken(base), steps);
+                self.give_root(s, call, taken(base));
                 act_answer(answer)
             }
-            Err(Late { at: _, root }) => {
-                let answer = self.edit_surely(rt, s, line, maker, steps);
-                self.give_root(rt, s, root, steps);
-                self.give_root(rt, s, taken(base), steps);
+            Err(StaleRoot { at: _, root }) => {
+                let answer = self.edit_surely(s, call, line, maker);
+                self.give_root(s, call, root);
+                self.give_root(s, call, taken(base));
                 match answer {
-                    EditAnswer::Full { .. } => self.surely_anew(rt, s, line, act, steps),
+                    EditAnswer::Full { .. } => self.surely_anew(s, call, line, act),
                     _ => act_answer(answer),
                 }
             }
@@ -300,16 +274,13 @@ impl<'m> World<'m> {
     // One attempt at an edit, of which nothing stays held.
     fn attempt_anew<R: Wait, G: Gate, L: Ledger>(
         &self,
-        rt: &R,
         s: &mut Session,
+        call: &mut CallContext<'_, R, G, L>,
         line: u32,
         act: &Act,
-        gate: &G,
-        steps: &mut Steps<L>,
     ) -> OnceAnswer
         requires ready { IsReady self.now.table 3900 s.old }
-        requires edit { is_edit act.now ≡ true }
-        requires fits { IsActOf self.now act.now }
+        requires edit { IsEditOf self.now act.now }
         ensures calls { Calls self.now.table s.old s.new }
         ensures told { AnswersOnce self.now line act.now result s.old.view s.new.view }
     {
@@ -317,16 +288,16 @@ impl<'m> World<'m> {
             models: &self.drawn,
             edit: *act,
         };
-        let base = self.pin_head(rt, s, steps);
+        let base = self.pin_head(s, call);
         let moment = base.moment;
-        match self.attempt(rt, s, &base, line, &mut maker, gate, steps) {
+        match self.attempt(s, call, &base, line, &mut maker) {
             Ok(answer) => {
-                self.give_root(rt, s, taken(base), steps);
+                self.give_root(s, call, taken(base));
                 once_answer(answer)
             }
-            Err(Late { at, root }) => {
-                self.give_root(rt, s, root, steps);
-                self.give_root(rt, s, taken(base), steps);
+            Err(StaleRoot { at, root }) => {
+                self.give_root(s, call, root);
+                self.give_root(s, call, taken(base));
                 OnceAnswer::Stale { at, base: moment }
             }
         }
@@ -341,40 +312,34 @@ impl<'m> World<'m> {
         act: &Act,
         gate: &G,
     ) -> OnceAnswer
-        requires rest { IsAtRest self.now.table s.old }
-        requires edit { is_edit act.now ≡ true }
-        requires fits { IsActOf self.now act.now }
-        requires room { number_of_trees s.old.view.held ≤ 3900 }
-        ensures rest { IsAtRest self.now.table s.new }
-        ensures same { SamePass s.old s.new }
-        ensures held { SameHeld s.old.view.held s.new.view.held }
-        ensures told { (number : ℕ) → s.old.view.numbers ≡ number ∷ [] → OnceTold
-            (of_world self.now number) line act.now (session_seen s.old.view)
-            (session_seen s.new.view) result }
+        requires ready { IsReady self.now.table 3900 s.old }
+        requires edit { IsEditOf self.now act.now }
+        ensures calls { Calls self.now.table s.old s.new }
+        ensures told { (number : ℕ) → s.old.view.numbers ≡ number ∷ [] → OnceSpec
+            (of_world self.now number) line act.now (session_view s.old.view)
+            (session_view s.new.view) result }
         ensures knows { KnowsItself s.new.view }
     {
-        let answer = self.act_once_on::<R, G, Brand>(rt, s, line, act, gate, Blank::new(1));
+        let start = CallStart::new(rt, gate);
+        let answer = self.act_once_on::<R, G, Brand>(s, start, line, act);
         s.tell();
         answer
     }
 
     fn act_once_on<R: Wait, G: Gate, L: Ledger>(
         &self,
-        rt: &R,
         s: &mut Session,
+        start: CallStart<'_, R, G>,
         line: u32,
         act: &Act,
-        gate: &G,
-        blank: Blank,
     ) -> OnceAnswer
         requires ready { IsReady self.now.table 3900 s.old }
-        requires edit { is_edit act.now ≡ true }
-        requires fits { IsActOf self.now act.now }
-        requires blank { IsBlankOf blank.name blank.parts L.name L.parts }
+        requires edit { IsEditOf self.now act.now }
+        requires blank { IsBlankOf start.blank.name start.blank.parts L.name L.parts }
         ensures calls { Calls self.now.table s.old s.new }
         ensures told { AnswersOnce self.now line act.now result s.old.view s.new.view }
     {
-        let mut steps: Steps<L> = Steps::start(blank);
-        self.attempt_anew(rt, s, line, act, gate, &mut steps)
+        let mut call = start.open::<L>();
+        self.attempt_anew(s, &mut call, line, act)
     }
 }

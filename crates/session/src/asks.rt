@@ -1,37 +1,35 @@
 //! What is asked of a version.
-ghost use Rattle.std.specs.Prelude.{◌≡◌, ◌≤◌, ◌^◌, true, ℕ, option_copied};
-ghost use Rattle.node_words.specs.shapes.Weights.{number_of_trees};
+ghost use Rattle.std.specs.Prelude.{◌≡◌, ◌^◌, true, ℕ, option_copied};
 ghost use Rattle.node_words.specs.descent.Roots.{HoldsRoot};
-ghost use Rattle.node_words.specs.Held.{SameHeld};
-ghost use Rattle.table_rule.specs.Views.{seen_of};
-ghost use Rattle.hands.specs.Lendable.{IsLendable, StaysLendable};
-ghost use Rattle.node_table.specs.Seen.{SamePass};
+ghost use Rattle.session.specs.Lendable.{IsLendable};
 ghost use Rattle.script.specs.Fitting.{QuestionFits};
 ghost use Rattle.conformance.specs.Kinds.{is_resting};
-ghost use Rattle.table_rule.specs.LogTelling.{seen_has};
+ghost use Rattle.table_rule.specs.LogFacts.{seen_has};
 ghost use Rattle.version_log.specs.declared.answers.Pinned.{Pinned};
 ghost use Rattle.version_log.specs.Pins.{IsPinned};
-ghost use Rattle.conformance.specs.sessions.Told.{AskTold, TellsKept};
-ghost use Rattle.act_rebuilds.specs.questions.TellsRoots.{TellsRoot};
-ghost use Rattle.session.specs.Resting.{Calls, IsAtRest, IsBlankOf, IsReady};
-ghost use Rattle.session.specs.Roots.{TellsHeld};
-ghost use Rattle.session.specs.Seen.{KnowsItself, of_world, session_seen, side_seen};
+ghost use Rattle.conformance.specs.sessions.CallSpecs.{AskSpec, AnswersStored};
+ghost use Rattle.act_rebuilds.specs.questions.AnswersByRoots.{AnswersByRoot};
+ghost use Rattle.session.specs.Resting.{Calls, IsAtRest, IsBlankOf, IsLentToRead, IsOnlyRead};
+ghost use Rattle.session.specs.Resting.{IsReady};
+ghost use Rattle.session.specs.Roots.{AnswersHeld};
+ghost use Rattle.session.specs.SessionWorlds.{KnowsItself, of_world, session_view, side_seen};
 
+use crate::contexts::CallStart;
 use crate::world::{Session, World};
-use act_rebuilds::{tell, tell_tinted};
+use act_rebuilds::{answer_tinted, tell};
 use conformance::AskedAt;
 use history_model::Question;
-use node_words::{Share, Steps};
+use node_words::Share;
 use std::marker::Brand;
 use std::sync::Wait;
-use std::sync::ledger::{Blank, Ledger};
+use std::sync::ledger::Ledger;
 use transcript::Answer;
 use version_log::{PinRefused, Pinned};
 
-impl<'m> World<'m> {
+impl World {
     // What is asked of the cells of the store, by a root that the session holds. It takes no turn
     // and waits for nobody.
-    pub(crate) fn tell_cells(
+    pub(crate) fn answer_cells(
         &self,
         s: &mut Session,
         root: Option<&Share>,
@@ -40,11 +38,10 @@ impl<'m> World<'m> {
         requires ready { IsLendable self.now.table s.old }
         requires root { HoldsRoot s.old.view.held self.now.table.plan.side (option_copied root) }
         requires fits { QuestionFits (2 ^ self.now.table.plan.side) question }
-        ensures stays { StaysLendable self.now.table s.old s.new }
-        ensures tells { TellsRoot s.old.view.held self.now.table.plan.side
+        ensures read { IsLentToRead self.now.table s.old s.new }
+        ensures tells { AnswersByRoot s.old.view.held self.now.table.plan.side
             (option_copied root.entry) question result }
         ensures resting { is_resting result ≡ true }
-        ensures seen { seen_of s.new.view ≡ seen_of s.old.view }
     {
         let side = self.table.plan().side();
         let mut hand = self.hand(&(), s);
@@ -52,37 +49,35 @@ impl<'m> World<'m> {
     }
 
     // The same of the tints that they keep.
-    fn tell_tints(&self, s: &mut Session, root: Option<&Share>, question: Question) -> Answer
+    fn answer_tints(&self, s: &mut Session, root: Option<&Share>, question: Question) -> Answer
         requires ready { IsLendable self.now.table s.old }
         requires tint { self.now.tint ≡ true }
         requires root { HoldsRoot s.old.view.held self.now.table.plan.side (option_copied root) }
         requires fits { QuestionFits (side_seen self.now) question }
-        ensures stays { StaysLendable self.now.table s.old s.new }
-        ensures tells { TellsHeld true s.old.view.held self.now.table.plan.side
+        ensures read { IsLentToRead self.now.table s.old s.new }
+        ensures tells { AnswersHeld true s.old.view.held self.now.table.plan.side
             (option_copied root.entry) question result }
         ensures resting { is_resting result ≡ true }
-        ensures seen { seen_of s.new.view ≡ seen_of s.old.view }
     {
         let side = self.table.plan().side();
         let mut hand = self.hand(&(), s);
-        tell_tinted(&mut hand, root, side, question)
+        answer_tinted(&mut hand, root, side, question)
     }
 
     // What is asked of the world, by a root that the session holds.
-    fn tell_root(&self, s: &mut Session, root: Option<&Share>, question: Question) -> Answer
+    fn answer_root(&self, s: &mut Session, root: Option<&Share>, question: Question) -> Answer
         requires ready { IsLendable self.now.table s.old }
         requires root { HoldsRoot s.old.view.held self.now.table.plan.side (option_copied root) }
         requires fits { QuestionFits (side_seen self.now) question }
-        ensures stays { StaysLendable self.now.table s.old s.new }
-        ensures tells { TellsHeld self.now.tint s.old.view.held self.now.table.plan.side
+        ensures read { IsLentToRead self.now.table s.old s.new }
+        ensures tells { AnswersHeld self.now.tint s.old.view.held self.now.table.plan.side
             (option_copied root.entry) question result }
         ensures resting { is_resting result ≡ true }
-        ensures seen { seen_of s.new.view ≡ seen_of s.old.view }
     {
         if self.tint {
-            self.tell_tints(s, root, question)
+            self.answer_tints(s, root, question)
         } else {
-            self.tell_cells(s, root, question)
+            self.answer_cells(s, root, question)
         }
     }
 
@@ -92,16 +87,13 @@ impl<'m> World<'m> {
         requires rest { IsAtRest self.now.table s.old }
         requires pinned { IsPinned s.old.view p.now }
         requires fits { QuestionFits (side_seen self.now) question.now }
-        ensures rest { IsAtRest self.now.table s.new }
-        ensures same { SamePass s.old s.new }
-        ensures held { s.new.view.held ≡ s.old.view.held }
-        ensures seen { session_seen s.new.view ≡ session_seen s.old.view }
-        ensures tells { TellsKept self.now.tint (2 ^ self.now.table.plan.side)
+        ensures read { IsOnlyRead self.now.table s.old s.new }
+        ensures tells { AnswersStored self.now.tint (2 ^ self.now.table.plan.side)
             (seen_has s.old.view p.now.version) question.now result }
         ensures pinned { (q : Pinned) → IsPinned s.old.view q → IsPinned s.new.view q }
         ensures knows { KnowsItself s.new.view }
     {
-        let answer = self.tell_root(s, p.root.as_ref(), *question);
+        let answer = self.answer_root(s, p.root.as_ref(), *question);
         s.tell();
         answer
     }
@@ -115,38 +107,35 @@ impl<'m> World<'m> {
         version: Option<u32>,
         question: Question,
     ) -> Result<AskedAt, PinRefused>
-        requires rest { IsAtRest self.now.table s.old }
+        requires ready { IsReady self.now.table 3900 s.old }
         requires fits { QuestionFits (side_seen self.now) question }
-        requires room { number_of_trees s.old.view.held ≤ 3900 }
-        ensures rest { IsAtRest self.now.table s.new }
-        ensures same { SamePass s.old s.new }
-        ensures held { SameHeld s.old.view.held s.new.view.held }
-        ensures told { (number : ℕ) → AskTold (of_world self.now number) version question
-            (session_seen s.old.view) (session_seen s.new.view) result }
+        ensures calls { Calls self.now.table s.old s.new }
+        ensures told { (number : ℕ) → AskSpec (of_world self.now number) version question
+            (session_view s.old.view) (session_view s.new.view) result }
         ensures knows { KnowsItself s.new.view }
     {
-        let answer = self.ask_on::<R, Brand>(rt, s, version, question, Blank::new(1));
+        let start = CallStart::new(rt, &());
+        let answer = self.ask_on::<R, Brand>(s, start, version, question);
         s.tell();
         answer
     }
 
     fn ask_on<R: Wait, L: Ledger>(
         &self,
-        rt: &R,
         s: &mut Session,
+        start: CallStart<'_, R, ()>,
         version: Option<u32>,
         question: Question,
-        blank: Blank,
     ) -> Result<AskedAt, PinRefused>
         requires ready { IsReady self.now.table 3900 s.old }
         requires fits { QuestionFits (side_seen self.now) question }
-        requires blank { IsBlankOf blank.name blank.parts L.name L.parts }
+        requires blank { IsBlankOf start.blank.name start.blank.parts L.name L.parts }
         ensures calls { Calls self.now.table s.old s.new }
-        ensures told { (number : ℕ) → AskTold (of_world self.now number) version question
-            (session_seen s.old.view) (session_seen s.new.view) result }
+        ensures told { (number : ℕ) → AskSpec (of_world self.now number) version question
+            (session_view s.old.view) (session_view s.new.view) result }
     {
-        let mut steps: Steps<L> = Steps::start(blank);
-        match version_log::pin(rt, &self.table, s, version, &mut steps) {
+        let mut call = start.open::<L>();
+        match version_log::pin(call.rt, &self.table, s, version, &mut call.steps) {
             Ok(
                 Pinned {
                     version: _,
@@ -154,8 +143,8 @@ impl<'m> World<'m> {
                     root,
                 },
             ) => {
-                let answer = self.tell_root(s, root.as_ref(), question);
-                self.give_back(rt, s, root, &mut steps);
+                let answer = self.answer_root(s, root.as_ref(), question);
+                self.give_back(s, &mut call, root);
                 Ok(AskedAt { at: moment, answer })
             }
             Err(refused) => Err(refused),

@@ -1,23 +1,17 @@
 // Attempts at an edit: each makes its root of the newest version that the session has seen.
-ghost use Rattle.std.specs.Prelude.{◌≡◌, ◌≤◌, ◌^◌, true, IfOk, IfErr, OnOk, OnErr, option_copied};
-ghost use Rattle.history_model.specs.Logs.{FitsWorld};
-ghost use Rattle.history_model.specs.Worlds.{is_edit};
-ghost use Rattle.node_words.specs.shapes.Weights.{number_of_trees};
-ghost use Rattle.table_rule.specs.LogTelling.{number_seen, seen_has};
-ghost use Rattle.node_table.specs.Seen.{SamePass};
-ghost use Rattle.version_log.specs.Commits.{IsMadeOver, RefusesCommit};
-ghost use Rattle.version_log.specs.Falling.{CommitsNext};
-ghost use Rattle.version_log.specs.Roots.{HoldsRootOf};
-ghost use Rattle.version_log.specs.Seeing.{LooksOn};
-ghost use Rattle.hands.specs.Lendable.{IsLendable, StaysLendable};
-ghost use Rattle.session.specs.Attempts.{Attempts, FailsToMake, HasPinnedHead, IsMaker, MakesNextRoot};
-ghost use Rattle.session.specs.Resting.{IsAtRest};
+ghost use Rattle.std.specs.Prelude.{OnErr, OnOk, option_copied};
+ghost use Rattle.session.specs.Lendable.{IsLendable, StaysLendable};
+ghost use Rattle.version_log.specs.Coming.{CommitCame};
+ghost use Rattle.session.specs.Attempts.{Attempts, HasPinnedHead, HoldsHead, MakesNext};
+ghost use Rattle.session.specs.Attempts.{MayBeMade, MayCommitNext, SameEdit};
+ghost use Rattle.session.specs.Resting.{ReturnsAtRest, IsReady};
 
+use crate::contexts::CallContext;
 use crate::world::{Session, World};
+use act_rebuilds::ActMaker;
 use gate_run::Gate;
-use hands::{ActMaker, make_over};
 use history_model::Act;
-use node_words::{Full, Share, Steps};
+use node_words::{Full, Share};
 use std::sync::Wait;
 use std::sync::ledger::Ledger;
 use version_log::{CommitRefused, Committed, Pinned, commit};
@@ -34,43 +28,34 @@ pub(crate) enum EditAnswer {
 }
 
 /// Another session was faster, and the history has this length. The root that was made is held.
-pub(crate) struct Late {
+pub(crate) struct StaleRoot {
     pub(crate) at: u32,
     pub(crate) root: Option<Share>,
 }
 
-impl<'m> World<'m> {
+impl World {
     // A share of the root of what the edit makes of the newest version that the session has seen,
     // whose root it holds.
-    pub(crate) fn make_next<M: ActMaker, R: Wait, L: Ledger>(
+    pub(crate) fn make_next<M: ActMaker, R: Wait, G, L: Ledger>(
         &self,
-        rt: &R,
         s: &mut Session,
+        call: &mut CallContext<'_, R, G, L>,
         base: Option<&Share>,
         maker: &mut M,
-        steps: &mut Steps<L>,
     ) -> Result<Option<Share>, Full>
         requires ready { IsLendable self.now.table s.old }
-        requires maker { IsMaker self.now.table (M.tint maker.old) (M.models maker.old)
-            (M.act maker.old) }
-        requires base { HoldsRootOf s.old.view (option_copied base)
-            (seen_has s.old.view (number_seen s.old.view)) }
-        requires room { number_of_trees s.old.view.held ≤ 3909 }
-        requires recalls { M.recalls maker.old s.old.view.held }
+        requires maker { MayBeMade self.now.table (M.drawn maker.old) (M.act maker.old)
+            (M.recalls maker.old s.old.view.held) }
+        requires head { HoldsHead 3909 s.old.view (option_copied base) }
         ensures stays { StaysLendable self.now.table s.old s.new }
-        ensures tint { M.tint maker.new ≡ M.tint maker.old }
-        ensures models { M.models maker.new ≡ M.models maker.old }
-        ensures act { M.act maker.new ≡ M.act maker.old }
-        ensures root { IfOk result
-            (λ r. MakesNextRoot self.now.table (M.act maker.old) r s.old.view s.new.view) }
-        ensures full { IfErr result
-            (λ e. FailsToMake self.now.table (M.act maker.old) e s.old.view s.new.view) }
+        ensures edit { SameEdit (M.drawn maker.new) (M.drawn maker.old) (M.act maker.new)
+            (M.act maker.old) }
+        ensures made { MakesNext self.now.table (M.act maker.old) result s.old.view s.new.view }
         ensures recalls { OnOk result (M.recalls maker.new s.new.view.held) }
     {
-        match make_over(rt, &self.table, s, base, maker, steps) {
-            Ok(root) => Ok(root),
-            Err(full) => Err(full),
-        }
+        let side = self.table.plan().side();
+        let mut hand = self.hand(call.rt, s);
+        maker.make(&mut hand, base, side, &mut call.steps)
     }
 
     // Commits what was made of the version that is pinned. The share of the root of the version
@@ -84,19 +69,12 @@ impl<'m> World<'m> {
         act: &Act,
         root: Option<Share>,
     ) -> Result<Committed, CommitRefused>
-        requires rest { IsAtRest self.now.table s.old }
-        requires room { number_of_trees s.old.view.held ≤ 4095 }
+        requires ready { IsReady self.now.table 4095 s.old }
         requires base { HasPinnedHead s.old.view base.now }
-        requires edit { is_edit act.now ≡ true }
-        requires fits { FitsWorld (2 ^ self.now.table.plan.side) self.now.table.models act.now }
-        requires made { IsMadeOver s.old.view (number_seen s.old.view) act.now root }
-        ensures rest { IsAtRest self.now.table s.new }
-        ensures same { SamePass s.old s.new }
-        ensures commits { IfOk result
-            (λ c. CommitsNext s.old.view self.now.keep line act.now root c s.new.view) }
-        ensures refused { IfErr result (λ e. RefusesCommit base.now root e s.new.view) }
-        ensures looks { IfErr result (λ e. LooksOn s.old.view s.new.view) }
-        ensures kept { IfErr result (λ e. s.new.view.held ≡ s.old.view.held) }
+        requires may { MayCommitNext self.now.table s.old.view act.now root }
+        ensures back { ReturnsAtRest self.now.table s.old s.new }
+        ensures came { CommitCame base.now self.now.keep line act.now root result s.old.view
+            s.new.view }
     {
         match commit(rt, &self.table, s, base, line, act, root, self.keep) {
             Ok(committed) => Ok(committed),
@@ -107,42 +85,36 @@ impl<'m> World<'m> {
     // The edit of the newest version, which is pinned. Too late, its root stays held.
     pub(crate) fn attempt<M: ActMaker, R: Wait, G: Gate, L: Ledger>(
         &self,
-        rt: &R,
         s: &mut Session,
+        call: &mut CallContext<'_, R, G, L>,
         base: &Pinned,
         line: u32,
         maker: &mut M,
-        gate: &G,
-        steps: &mut Steps<L>,
-    ) -> Result<EditAnswer, Late>
-        requires rest { IsAtRest self.now.table s.old }
-        requires maker { IsMaker self.now.table (M.tint maker.old) (M.models maker.old)
-            (M.act maker.old) }
+    ) -> Result<EditAnswer, StaleRoot>
+        requires ready { IsReady self.now.table 3901 s.old }
+        requires maker { MayBeMade self.now.table (M.drawn maker.old) (M.act maker.old)
+            (M.recalls maker.old s.old.view.held) }
         requires base { HasPinnedHead s.old.view base.now }
-        requires room { number_of_trees s.old.view.held ≤ 3901 }
-        requires recalls { M.recalls maker.old s.old.view.held }
-        ensures rest { IsAtRest self.now.table s.new }
-        ensures same { SamePass s.old s.new }
-        ensures tint { M.tint maker.new ≡ M.tint maker.old }
-        ensures models { M.models maker.new ≡ M.models maker.old }
-        ensures act { M.act maker.new ≡ M.act maker.old }
+        ensures back { ReturnsAtRest self.now.table s.old s.new }
+        ensures edit { SameEdit (M.drawn maker.new) (M.drawn maker.old) (M.act maker.new)
+            (M.act maker.old) }
         ensures comes { Attempts self.now line (M.act maker.old) base.now result s.old.view
             s.new.view }
         ensures recalls { OnErr result (M.recalls maker.new s.new.view.held) }
     {
-        match self.make_next(rt, s, base.root.as_ref(), maker, steps) {
+        match self.make_next(s, call, base.root.as_ref(), maker) {
             Ok(root) => {
-                gate.between(s.number(), line);
-                match self.commit_root(rt, s, base, line, &maker.act(), root) {
+                call.gate.between(s.number(), line);
+                match self.commit_root(call.rt, s, base, line, &maker.act(), root) {
                     Ok(Committed { n, fallen }) => {
-                        self.give_root(rt, s, fallen, steps);
+                        self.give_root(s, call, fallen);
                         Ok(EditAnswer::Done { n })
                     }
                     Err(CommitRefused::LogFull { root }) => {
-                        self.give_root(rt, s, root, steps);
+                        self.give_root(s, call, root);
                         Ok(EditAnswer::LogFull)
                     }
-                    Err(CommitRefused::Stale { now, root }) => Err(Late { at: now, root }),
+                    Err(CommitRefused::Stale { now, root }) => Err(StaleRoot { at: now, root }),
                 }
             }
             Err(full) => Ok(EditAnswer::Full {

@@ -1,16 +1,13 @@
 //! The set cells of versions that are pinned, and their files.
-ghost use Rattle.std.specs.Prelude.{◌≡◌, ◌≤◌, ◌++◌, true, IfOk, OnErr, OnOk, option_copied};
-ghost use Rattle.vw_cell.specs.Places.{FitsAt};
+ghost use Rattle.std.specs.Prelude.{◌≡◌, ◌++◌, true, IfOk, OnErr, OnOk, option_copied};
 ghost use Rattle.node_words.specs.descent.Roots.{ForWorld, HoldsRoot};
-ghost use Rattle.table_rule.specs.LogTelling.{seen_has};
-ghost use Rattle.table_rule.specs.Views.{seen_of};
-ghost use Rattle.hands.specs.Lendable.{IsLendable, StaysLendable};
-ghost use Rattle.node_table.specs.Seen.{SamePass};
+ghost use Rattle.table_rule.specs.LogFacts.{seen_has};
+ghost use Rattle.session.specs.Lendable.{IsLendable};
 ghost use Rattle.version_log.specs.declared.answers.Pinned.{Pinned};
 ghost use Rattle.version_log.specs.Pins.{IsPinned};
-ghost use Rattle.session.specs.Resting.{IsAtRest};
-ghost use Rattle.session.specs.Roots.{file_kept, voxels_kept};
-ghost use Rattle.session.specs.Seen.{KnowsItself, session_seen, side_seen};
+ghost use Rattle.session.specs.Resting.{IsAtRest, IsLentToRead, IsOnlyRead};
+ghost use Rattle.session.specs.Roots.{stored_file, stored_voxels};
+ghost use Rattle.session.specs.SessionWorlds.{KnowsItself, MayBeListed};
 
 use crate::world::{Session, World};
 use act_rebuilds::tints_in;
@@ -22,7 +19,7 @@ use vox_read::Voxel;
 use vox_write::write_model;
 use vw_cell::{Boxed, Memory};
 
-impl<'m> World<'m> {
+impl World {
     // The set cells of a box, each with its tint, of the world whose tints the store of a root
     // keeps.
     fn tints_of_root(
@@ -35,15 +32,13 @@ impl<'m> World<'m> {
         requires ready { IsLendable self.now.table s.old }
         requires tint { self.now.tint ≡ true }
         requires root { HoldsRoot s.old.view.held self.now.table.plan.side (option_copied root) }
-        requires inside { FitsAt part.at part.size (side_seen self.now) }
-        requires small { (part.size.x ≤ 256) × (part.size.y ≤ 256) × (part.size.z ≤ 256) }
-        ensures stays { StaysLendable self.now.table s.old s.new }
+        requires part { MayBeListed self.now part }
+        ensures read { IsLentToRead self.now.table s.old s.new }
         ensures voxels { OnOk result
             (ForWorld s.old.view.held self.now.table.plan.side (option_copied root.entry)
             (λ cells. into.new.items ≡ into.old.items
-            ++ voxels_kept true self.now.table.plan.side part cells)) }
+            ++ stored_voxels true self.now.table.plan.side part cells)) }
         ensures memory { OnErr result (into.new.items ≡ into.old.items) }
-        ensures seen { seen_of s.new.view ≡ seen_of s.old.view }
     {
         let side = self.table.plan().side();
         let mut hand = self.hand(&(), s);
@@ -61,15 +56,13 @@ impl<'m> World<'m> {
     ) -> Result<(), Memory>
         requires ready { IsLendable self.now.table s.old }
         requires root { HoldsRoot s.old.view.held self.now.table.plan.side (option_copied root) }
-        requires inside { FitsAt part.at part.size (side_seen self.now) }
-        requires small { (part.size.x ≤ 256) × (part.size.y ≤ 256) × (part.size.z ≤ 256) }
-        ensures stays { StaysLendable self.now.table s.old s.new }
+        requires part { MayBeListed self.now part }
+        ensures read { IsLentToRead self.now.table s.old s.new }
         ensures voxels { OnOk result
             (ForWorld s.old.view.held self.now.table.plan.side (option_copied root.entry)
             (λ cells. into.new.items ≡ into.old.items
-            ++ voxels_kept self.now.tint self.now.table.plan.side part cells)) }
+            ++ stored_voxels self.now.tint self.now.table.plan.side part cells)) }
         ensures memory { OnErr result (into.new.items ≡ into.old.items) }
-        ensures seen { seen_of s.new.view ≡ seen_of s.old.view }
     {
         if self.tint {
             return self.tints_of_root(s, root, part, into);
@@ -89,13 +82,11 @@ impl<'m> World<'m> {
     ) -> Result<Vec<u8>, Memory>
         requires ready { IsLendable self.now.table s.old }
         requires root { HoldsRoot s.old.view.held self.now.table.plan.side (option_copied root) }
-        requires inside { FitsAt part.at part.size (side_seen self.now) }
-        requires small { (part.size.x ≤ 256) × (part.size.y ≤ 256) × (part.size.z ≤ 256) }
-        ensures stays { StaysLendable self.now.table s.old s.new }
+        requires part { MayBeListed self.now part }
+        ensures read { IsLentToRead self.now.table s.old s.new }
         ensures file { IfOk result
             (λ file. ForWorld s.old.view.held self.now.table.plan.side (option_copied root.entry)
-            (λ cells. file.items ≡ file_kept self.now.tint self.now.table.plan.side part cells)) }
-        ensures seen { seen_of s.new.view ≡ seen_of s.old.view }
+            (λ cells. file.items ≡ stored_file self.now.tint self.now.table.plan.side part cells)) }
     {
         let mut voxels = Vec::new(alloc);
         self.cells_of_root(s, root, part, &mut voxels)?;
@@ -116,14 +107,10 @@ impl<'m> World<'m> {
     ) -> Result<(), Memory>
         requires rest { IsAtRest self.now.table s.old }
         requires pinned { IsPinned s.old.view p.now }
-        requires inside { FitsAt part.at part.size (side_seen self.now) }
-        requires small { (part.size.x ≤ 256) × (part.size.y ≤ 256) × (part.size.z ≤ 256) }
-        ensures rest { IsAtRest self.now.table s.new }
-        ensures same { SamePass s.old s.new }
-        ensures held { s.new.view.held ≡ s.old.view.held }
-        ensures seen { session_seen s.new.view ≡ session_seen s.old.view }
+        requires part { MayBeListed self.now part }
+        ensures read { IsOnlyRead self.now.table s.old s.new }
         ensures voxels { OnOk result (into.new.items ≡ into.old.items
-            ++ voxels_kept self.now.tint self.now.table.plan.side part
+            ++ stored_voxels self.now.tint self.now.table.plan.side part
             (seen_has s.old.view p.now.version)) }
         ensures memory { OnErr result (into.new.items ≡ into.old.items) }
         ensures pinned { (q : Pinned) → IsPinned s.old.view q → IsPinned s.new.view q }

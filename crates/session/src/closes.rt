@@ -2,7 +2,7 @@
 ghost use Rattle.std.specs.Prelude.{◌≡◌, [], All, IfErr, IfOk, vec_len};
 ghost use Rattle.node_table.specs.Closing.{EndsTable};
 ghost use Rattle.conformance.specs.sessions.Ran.{ClosesWorld};
-ghost use Rattle.session.specs.Closes.{HadHistory, RefusesWorld, TellsLive, sessions_seen};
+ghost use Rattle.session.specs.Closes.{HadHistory, RefusesWorld, CountsLive, session_views};
 ghost use Rattle.session.specs.Resting.{IsAtRest};
 
 use crate::ended::Ended;
@@ -11,37 +11,36 @@ use node_table::TableCloseRefused;
 use std::alloc::Global;
 
 /// Why a world is not closed. All that was handed in comes back.
-pub enum CloseRefused<'m> {
+pub enum CloseRefused {
     /// There are not as many sessions as were made.
     Count {
-        world: World<'m>,
+        world: World,
         sessions: Vec<Session>,
         made: u16,
     },
     /// There was no room for the answer.
     Memory {
-        world: World<'m>,
+        world: World,
         sessions: Vec<Session>,
     },
 }
 
-impl<'m> World<'m> {
+impl World {
     /// Takes all sessions of the world, and tells what it leaves: one history of all of them, from
     /// which each saw a part. Refused, all comes back.
-    pub fn close(self, alloc: Global, sessions: Vec<Session>) -> Result<Ended, CloseRefused<'m>>
+    pub fn close(self, alloc: Global, sessions: Vec<Session>) -> Result<Ended, CloseRefused>
         requires rest { All (IsAtRest self.table) sessions.items }
         requires spare { All (λ s. s.view.held ≡ []) sessions.items }
-        ensures made { IfOk result (λ e. vec_len sessions ≡ self.entry.table.made) }
-        ensures ends { IfOk result (λ e. EndsTable self.entry.table e) }
-        ensures live { IfOk result (λ e. TellsLive self.entry.table e) }
-        ensures closes { IfOk result (λ e. ClosesWorld self.entry.tint self.entry.table.plan
-            self.entry.table.models (sessions_seen sessions.items) e.history) }
-        ensures refused { IfErr result (λ e. RefusesWorld self.entry sessions.items e) }
+        ensures made { IfOk result (λ e. vec_len sessions ≡ self.table.made) }
+        ensures ends { IfOk result (λ e. EndsTable self.table e) }
+        ensures live { IfOk result (λ e. CountsLive self.table e) }
+        ensures closes { IfOk result (λ e. ClosesWorld self.tint self.table.plan
+            self.table.models (session_views sessions.items) e.history) }
+        ensures refused { IfErr result (λ e. RefusesWorld self sessions.items e) }
     {
         let World {
             table,
             drawn,
-            models,
             tint,
             keep,
         } = self;
@@ -57,7 +56,6 @@ impl<'m> World<'m> {
                 world: World {
                     table,
                     drawn,
-                    models,
                     tint,
                     keep,
                 },
@@ -68,7 +66,6 @@ impl<'m> World<'m> {
                 world: World {
                     table,
                     drawn,
-                    models,
                     tint,
                     keep,
                 },
@@ -82,13 +79,12 @@ impl<'m> World<'m> {
         requires rest { All (IsAtRest self.table) sessions.items }
         requires spare { All (λ s. s.view.held ≡ []) sessions.items }
         requires made { vec_len sessions ≡ self.table.made }
-        ensures { HadHistory self.entry.tint self.entry.table.plan self.entry.table.models
-            (sessions_seen sessions.items) }
+        ensures { HadHistory self.tint self.table.plan self.table.models
+            (session_views sessions.items) }
     {
         let World {
             table,
             drawn: _,
-            models: _,
             tint: _,
             keep: _,
         } = self;

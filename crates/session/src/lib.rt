@@ -1,9 +1,10 @@
 //! A world that many sessions edit and read at the same time, with one history of all of them.
 //!
-//! Edits run over hands on the table of nodes, records stand in its log, and an old version is read
-//! with no turn. No file and no text occurs here. What each call tells is said in the terms of
-//! `session_runs` (`specs/Told.antt` there); what a world and a session are seen as, and what a
-//! closed world left, in `specs/Seen.antt` and `specs/Closes.antt`.
+//! A [`Hand`] lends a session as a store of nodes. Edits run over hands, records stand in the log of
+//! the table, and an old version is read with no turn. No file and no text occurs here. What each
+//! call tells is said in the terms of `conformance` (`specs/sessions/CallSpecs.antt` there); what a
+//! world and a session are seen as, and what a closed world left, in `specs/SessionWorlds.antt` and
+//! `specs/Closes.antt`.
 #![tactic(auto)]
 
 mod acts;
@@ -12,11 +13,14 @@ mod attempts;
 mod begin;
 mod cells;
 mod closes;
-mod desks;
+mod contexts;
 mod ended;
 mod forgets;
+mod hand;
 mod heads;
+mod lending;
 mod pins;
+mod responders;
 mod sames;
 mod saves;
 mod scripts;
@@ -28,7 +32,7 @@ mod world;
 pub use closes::CloseRefused;
 pub use conformance::{ActAnswer, OnceAnswer};
 pub use ended::Ended;
-pub use hands::Hand;
+pub use hand::Hand;
 pub use saves::PinnedSave;
 pub use scripts::run_script;
 pub use version_log::Pinned;

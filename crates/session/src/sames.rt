@@ -1,15 +1,14 @@
 //! Two versions are compared.
-ghost use Rattle.std.specs.Prelude.{◌≡◌, ℕ};
-ghost use Rattle.node_table.specs.Seen.{SamePass};
-ghost use Rattle.conformance.specs.sessions.Told.{SameTold};
-ghost use Rattle.session.specs.Resting.{IsAtRest};
-ghost use Rattle.session.specs.Seen.{KnowsItself, of_world, session_seen};
+ghost use Rattle.std.specs.Prelude.{ℕ};
+ghost use Rattle.conformance.specs.sessions.CallSpecs.{SameSpec};
+ghost use Rattle.session.specs.Resting.{IsAtRest, KeepsTrees};
+ghost use Rattle.session.specs.SessionWorlds.{KnowsItself, of_world, session_view};
 
 use crate::world::{Session, World};
 use std::sync::Wait;
 use version_log::{SameAt, SameRefused};
 
-impl<'m> World<'m> {
+impl World {
     /// Whether both versions have the same cells, and the same tints where cells have them.
     /// Nothing is walked.
     pub fn same<R: Wait>(
@@ -20,11 +19,9 @@ impl<'m> World<'m> {
         w: u32,
     ) -> Result<SameAt, SameRefused>
         requires rest { IsAtRest self.now.table s.old }
-        ensures rest { IsAtRest self.now.table s.new }
-        ensures same { SamePass s.old s.new }
-        ensures held { s.new.view.held ≡ s.old.view.held }
-        ensures told { (number : ℕ) → SameTold (of_world self.now number) v w
-            (session_seen s.old.view) (session_seen s.new.view) result }
+        ensures keeps { KeepsTrees self.now.table s.old s.new }
+        ensures told { (number : ℕ) → SameSpec (of_world self.now number) v w
+            (session_view s.old.view) (session_view s.new.view) result }
         ensures knows { KnowsItself s.new.view }
     {
         let told = version_log::same(rt, &self.table, s, v, w);

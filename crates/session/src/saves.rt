@@ -1,33 +1,29 @@
 //! Boxes of versions are saved: the version is pinned until its file is made.
-ghost use Rattle.std.specs.Prelude.{◌≡◌, ◌<◌, ◌≤◌, ℕ, Some, [], IfErr, IfOk, length};
+ghost use Rattle.std.specs.Prelude.{◌≡◌, ◌<◌, ◌≤◌, ℕ, Some, [], IfOk, length};
 ghost use Rattle.std.specs.List.{slice_get};
 ghost use Rattle.vw_cell.specs.Counts.{number_in};
 ghost use Rattle.vw_cell.specs.Places.{FitsAt};
-ghost use Rattle.node_words.specs.shapes.Weights.{number_of_trees};
-ghost use Rattle.node_words.specs.Held.{SameHeld};
 ghost use Rattle.history_model.specs.Stores.{store_has};
-ghost use Rattle.conformance.specs.Answers.{asked_version};
-ghost use Rattle.table_rule.specs.LogTelling.{seen_has};
-ghost use Rattle.table_rule.specs.Views.{seen_of};
-ghost use Rattle.hands.specs.Lendable.{IsLendable, StaysLendable};
-ghost use Rattle.node_table.specs.Seen.{SamePass};
+ghost use Rattle.table_rule.specs.LogFacts.{seen_has};
+ghost use Rattle.session.specs.Lendable.{IsLendable};
 ghost use Rattle.version_log.specs.declared.answers.Pinned.{Pinned};
 ghost use Rattle.version_log.specs.Pins.{IsPinned};
-ghost use Rattle.conformance.specs.sessions.Told.{SaveTold};
-ghost use Rattle.session.specs.Resting.{IsAtRest};
-ghost use Rattle.session.specs.Roots.{file_kept};
-ghost use Rattle.session.specs.Saves.{AddsPin, SeatHoldsPins, cells_counted, saved_told};
-ghost use Rattle.session.specs.Seen.{KnowsItself, of_world, session_seen, side_seen};
+ghost use Rattle.conformance.specs.sessions.CallSpecs.{SaveSpec};
+ghost use Rattle.session.specs.Resting.{ReturnsAtRest, IsAtRest, IsBlankOf, IsLentToRead};
+ghost use Rattle.session.specs.Resting.{IsOnlyRead, IsReady};
+ghost use Rattle.session.specs.Roots.{stored_file};
+ghost use Rattle.session.specs.Saves.{SaveCame, SeatHoldsPins, cells_counted, saved_told};
+ghost use Rattle.session.specs.SessionWorlds.{KnowsItself, MayBeListed, of_world, session_view, side_seen};
 
+use crate::contexts::CallStart;
 use crate::world::{Session, World};
 use conformance::SavedAt;
 use history_model::Question;
-use node_words::Steps;
 use retain::PinRefused;
 use std::alloc::Global;
 use std::marker::Brand;
 use std::sync::Wait;
-use std::sync::ledger::{Blank, Ledger};
+use std::sync::ledger::Ledger;
 use transcript::Answer;
 use version_log::Pinned;
 use vw_cell::{Boxed, Memory};
@@ -48,20 +44,17 @@ fn cells_counted(answer: Answer) -> u64
     }
 }
 
-impl<'m> World<'m> {
+impl World {
     // How many cells of a box the store has set at a version that is pinned.
     fn count_pinned(&self, s: &mut Session, p: &Pinned, part: Boxed) -> u64
         requires rest { IsAtRest self.now.table s.old }
         requires pinned { IsPinned s.old.view p.now }
         requires fits { FitsAt part.at part.size (side_seen self.now) }
-        ensures rest { IsAtRest self.now.table s.new }
-        ensures same { SamePass s.old s.new }
-        ensures held { s.new.view.held ≡ s.old.view.held }
-        ensures seen { session_seen s.new.view ≡ session_seen s.old.view }
+        ensures read { IsOnlyRead self.now.table s.old s.new }
         ensures cells { result ≡ number_in part (seen_has s.old.view p.now.version) }
         ensures knows { KnowsItself s.new.view }
     {
-        let answer = self.tell_cells(s, p.root.as_ref(), Question::Count(part));
+        let answer = self.answer_cells(s, p.root.as_ref(), Question::Count(part));
         s.tell();
         cells_counted(answer)
     }
@@ -74,18 +67,12 @@ impl<'m> World<'m> {
         version: Option<u32>,
         part: Boxed,
     ) -> Result<PinnedSave, PinRefused>
-        requires rest { IsAtRest self.now.table s.old }
+        requires ready { IsReady self.now.table 3900 s.old }
         requires fits { FitsAt part.at part.size (side_seen self.now) }
-        requires room { number_of_trees s.old.view.held ≤ 3900 }
-        ensures rest { IsAtRest self.now.table s.new }
-        ensures same { SamePass s.old s.new }
-        ensures told { (number : ℕ) → SaveTold (of_world self.now number) version part
-            (session_seen s.old.view) (session_seen s.new.view) (saved_told result) }
-        ensures pinned { IfOk result (λ p. AddsPin self.now.table (session_seen s.new.view)
-            s.old.view.held s.new.view.held p.pin) }
-        ensures asked { IfOk result
-            (λ p. p.pin.version ≡ asked_version version p.saved.at) }
-        ensures held { IfErr result (λ e. SameHeld s.old.view.held s.new.view.held) }
+        ensures back { ReturnsAtRest self.now.table s.old s.new }
+        ensures told { (number : ℕ) → SaveSpec (of_world self.now number) version part
+            (session_view s.old.view) (session_view s.new.view) (saved_told result) }
+        ensures came { SaveCame self.now.table version result s.old.view s.new.view }
         ensures knows { KnowsItself s.new.view }
     {
         match self.pin(rt, s, version) {
@@ -115,12 +102,10 @@ impl<'m> World<'m> {
         requires ready { IsLendable self.now.table s.old }
         requires holds { SeatHoldsPins self.now.table s.old.view saves.now }
         requires there { k < length saves.now }
-        requires inside { FitsAt part.at part.size (side_seen self.now) }
-        requires small { (part.size.x ≤ 256) × (part.size.y ≤ 256) × (part.size.z ≤ 256) }
-        ensures stays { StaysLendable self.now.table s.old s.new }
-        ensures seen { seen_of s.new.view ≡ seen_of s.old.view }
+        requires part { MayBeListed self.now part }
+        ensures read { IsLentToRead self.now.table s.old s.new }
         ensures file { IfOk result (λ file. (p : Pinned) → slice_get saves.now k ≡ Some p
-            → file.items ≡ file_kept self.now.tint self.now.table.plan.side part
+            → file.items ≡ stored_file self.now.tint self.now.table.plan.side part
             (store_has self.now.table.models s.old.view.log.seen p.version)) }
     {
         let root = saves[k].root.as_ref();
@@ -132,41 +117,37 @@ impl<'m> World<'m> {
         requires rest { IsAtRest self.now.table s.old }
         requires holds { SeatHoldsPins self.now.table s.old.view saves.items }
         requires few { length saves.items ≤ 3900 }
-        ensures rest { IsAtRest self.now.table s.new }
-        ensures same { SamePass s.old s.new }
-        ensures seen { session_seen s.new.view ≡ session_seen s.old.view }
+        ensures back { ReturnsAtRest self.now.table s.old s.new }
+        ensures seen { session_view s.new.view ≡ session_view s.old.view }
         ensures none { s.new.view.held ≡ [] }
     {
-        unpin_over::<R, Brand>(rt, self, s, saves, Blank::new(1));
+        let start = CallStart::new(rt, &());
+        unpin_over::<R, Brand>(self, s, start, saves);
     }
 }
 
 fn unpin_over<R: Wait, L: Ledger>(
-    rt: &R,
-    world: &World<'_>,
+    world: &World,
     s: &mut Session,
+    start: CallStart<'_, R, ()>,
     mut saves: Vec<Pinned>,
-    blank: Blank,
 )
     requires rest { IsAtRest world.now.table s.old }
     requires holds { SeatHoldsPins world.now.table s.old.view saves.items }
     requires few { length saves.items ≤ 3900 }
-    requires name { blank.name ≡ L.name }
-    requires parts { blank.parts ≡ L.parts }
-    requires some { 0 < L.parts }
-    ensures rest { IsAtRest world.now.table s.new }
-    ensures same { SamePass s.old s.new }
-    ensures seen { session_seen s.new.view ≡ session_seen s.old.view }
+    requires blank { IsBlankOf start.blank.name start.blank.parts L.name L.parts }
+    ensures back { ReturnsAtRest world.now.table s.old s.new }
+    ensures seen { session_view s.new.view ≡ session_view s.old.view }
     ensures none { s.new.view.held ≡ [] }
 {
-    let mut steps: Steps<L> = Steps::start(blank);
+    let mut call = start.open::<L>();
     while let Some(pin) = saves.pop() {
         let Pinned {
             version: _,
             moment: _,
             root,
         } = pin;
-        world.give_root(rt, s, root, &mut steps);
+        world.give_root(s, &mut call, root);
     }
     saves.destroy_empty();
 }

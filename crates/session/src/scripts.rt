@@ -1,15 +1,13 @@
 //! A session runs its script.
 ghost use Rattle.std.specs.Prelude.{◌≡◌, ◌+◌, ◌≤◌, ◌∷◌, [], ℕ, length, vec_capacity, vec_len};
-ghost use Rattle.node_table.specs.Seen.{SamePass};
-ghost use Rattle.script.specs.Fitting.{RisesFrom};
 ghost use Rattle.conformance.specs.sessions.Runs.{RunsScript};
 ghost use Rattle.conformance.specs.sessions.Saves.{saves_asked_in};
-ghost use Rattle.session.specs.Resting.{IsAtRest};
+ghost use Rattle.session.specs.Resting.{ReturnsAtRest, IsAtRest};
 ghost use Rattle.session.specs.Saves.{SeatHoldsMore, pinned_versions};
-ghost use Rattle.session.specs.Scripts.{IsFresh};
-ghost use Rattle.session.specs.Seen.{AreLinesOfWorld, of_world, session_seen};
+ghost use Rattle.session.specs.Scripts.{IsFresh, IsScriptOf};
+ghost use Rattle.session.specs.SessionWorlds.{of_world, session_view};
 
-use crate::desks::ScriptDesk;
+use crate::responders::ScriptResponder;
 use crate::world::{Session, World};
 use conformance::run_lines;
 use gate_run::Gate;
@@ -25,7 +23,7 @@ const MOST_HELD: usize = 3_900;
 /// accepted save behind the saves; the roots of these pins are all that the session then holds.
 pub fn run_script<R: Wait, G: Gate>(
     rt: &R,
-    world: &World<'_>,
+    world: &World,
     s: &mut Session,
     script: &Script,
     answers: &mut Vec<LineAnswer>,
@@ -34,23 +32,20 @@ pub fn run_script<R: Wait, G: Gate>(
 )
     requires rest { IsAtRest world.now.table s.old }
     requires fresh { IsFresh s.old.view }
-    requires rises { RisesFrom 1 script.now }
-    requires fit { AreLinesOfWorld world.now script.now }
+    requires lines { IsScriptOf world.now script.now }
     requires room { vec_len answers.old + length script.now ≤ vec_capacity answers.old }
-    requires few { saves_asked_in script.now ≤ 3900 }
     requires saves { vec_len saves.old + saves_asked_in script.now ≤ vec_capacity saves.old }
-    ensures rest { IsAtRest world.now.table s.new }
-    ensures same { SamePass s.old s.new }
+    ensures back { ReturnsAtRest world.now.table s.old s.new }
     ensures ran { (number : ℕ) → s.old.view.numbers ≡ number ∷ [] → RunsScript
         (of_world world.now number) script.now answers.old.items answers.new.items
-        (session_seen s.old.view) (session_seen s.new.view) (pinned_versions saves.old.items)
+        (session_view s.old.view) (session_view s.new.view) (pinned_versions saves.old.items)
         (pinned_versions saves.new.items) }
     ensures holds { SeatHoldsMore world.now.table s.new.view saves.old.items saves.new.items }
 {
     let number = s.number();
     let first = saves.len();
     let most = first + (saves.capacity() - first).min(MOST_HELD);
-    let mut desk = ScriptDesk {
+    let mut responder = ScriptResponder {
         rt,
         gate,
         world,
@@ -60,5 +55,5 @@ pub fn run_script<R: Wait, G: Gate>(
         first,
         most,
     };
-    run_lines(&mut desk, script.lines.as_slice(), answers);
+    run_lines(&mut responder, script.lines.as_slice(), answers);
 }

@@ -1,53 +1,43 @@
 // An edit under the log's turn, while no other session commits.
-ghost use Rattle.std.specs.Prelude.{◌≡◌, ◌≤◌, option_copied};
-ghost use Rattle.node_words.specs.shapes.Weights.{number_of_trees};
-ghost use Rattle.node_words.specs.Held.{SameHeld};
-ghost use Rattle.node_table.specs.Seen.{SamePass};
-ghost use Rattle.table_rule.specs.LogTelling.{number_seen, seen_has};
-ghost use Rattle.version_log.specs.Roots.{HoldsRootOf};
-ghost use Rattle.session.specs.Attempts.{AnswersAct, IsMaker, act_answer};
-ghost use Rattle.session.specs.Resting.{HasLog, IsAtRest};
+ghost use Rattle.std.specs.Prelude.{option_copied};
+ghost use Rattle.session.specs.Attempts.{AnswersAct, HoldsHead, MayBeMade, act_answer};
+ghost use Rattle.session.specs.Resting.{Calls, HasLog, IsReady};
 
 use crate::attempts::EditAnswer;
+use crate::contexts::CallContext;
 use crate::world::{Session, World};
-use hands::ActMaker;
-use node_words::{Share, Steps};
+use act_rebuilds::ActMaker;
+use node_words::Share;
 use std::sync::Wait;
 use std::sync::ledger::Ledger;
-use version_log::{Committed, SureRefused, nothing_kept};
+use version_log::{Committed, SureRefused, no_lookahead};
 
-impl<'m> World<'m> {
+impl World {
     // The edit of the newest version, whose root is held. The turn goes back.
-    fn make_surely<M: ActMaker, R: Wait, L: Ledger>(
+    fn make_surely<M: ActMaker, R: Wait, G, L: Ledger>(
         &self,
-        rt: &R,
         s: &mut Session,
+        call: &mut CallContext<'_, R, G, L>,
         head: Option<&Share>,
         line: u32,
         maker: &mut M,
-        steps: &mut Steps<L>,
     ) -> EditAnswer
         requires turn { HasLog self.now.table s.old }
-        requires maker { IsMaker self.now.table (M.tint maker.old) (M.models maker.old)
-            (M.act maker.old) }
-        requires head { HoldsRootOf s.old.view (option_copied head)
-            (seen_has s.old.view (number_seen s.old.view)) }
-        requires room { number_of_trees s.old.view.held ≤ 3909 }
-        requires recalls { M.recalls maker.old s.old.view.held }
-        ensures rest { IsAtRest self.now.table s.new }
-        ensures same { SamePass s.old s.new }
-        ensures held { SameHeld s.old.view.held s.new.view.held }
+        requires maker { MayBeMade self.now.table (M.drawn maker.old) (M.act maker.old)
+            (M.recalls maker.old s.old.view.held) }
+        requires head { HoldsHead 3909 s.old.view (option_copied head) }
+        ensures calls { Calls self.now.table s.old s.new }
         ensures told { AnswersAct self.now line (M.act maker.old) (act_answer result) s.old.view
             s.new.view }
     {
-        match self.make_next(rt, s, head, maker, steps) {
-            Ok(root) => match self.finish(s, nothing_kept(), line, &maker.act(), root) {
+        match self.make_next(s, call, head, maker) {
+            Ok(root) => match self.finish(s, no_lookahead(), line, &maker.act(), root) {
                 Ok(Committed { n, fallen }) => {
-                    self.give_root(rt, s, fallen, steps);
+                    self.give_root(s, call, fallen);
                     EditAnswer::Done { n }
                 }
                 Err(SureRefused::LogFull { root }) => {
-                    self.give_root(rt, s, root, steps);
+                    self.give_root(s, call, root);
                     EditAnswer::LogFull
                 }
             },
@@ -59,29 +49,24 @@ impl<'m> World<'m> {
     }
 
     // An edit of the newest version, under the log's turn.
-    pub(crate) fn edit_surely<M: ActMaker, R: Wait, L: Ledger>(
+    pub(crate) fn edit_surely<M: ActMaker, R: Wait, G, L: Ledger>(
         &self,
-        rt: &R,
         s: &mut Session,
+        call: &mut CallContext<'_, R, G, L>,
         line: u32,
         maker: &mut M,
-        steps: &mut Steps<L>,
     ) -> EditAnswer
-        requires rest { IsAtRest self.now.table s.old }
-        requires maker { IsMaker self.now.table (M.tint maker.old) (M.models maker.old)
-            (M.act maker.old) }
-        requires room { number_of_trees s.old.view.held ≤ 3902 }
-        requires recalls { M.recalls maker.old s.old.view.held }
-        ensures rest { IsAtRest self.now.table s.new }
-        ensures same { SamePass s.old s.new }
-        ensures held { SameHeld s.old.view.held s.new.view.held }
+        requires ready { IsReady self.now.table 3902 s.old }
+        requires maker { MayBeMade self.now.table (M.drawn maker.old) (M.act maker.old)
+            (M.recalls maker.old s.old.view.held) }
+        ensures calls { Calls self.now.table s.old s.new }
         ensures told { AnswersAct self.now line (M.act maker.old) (act_answer result) s.old.view
             s.new.view }
     {
-        self.take(rt, s);
-        let head = self.keep_head(rt, s, steps);
-        let answer = self.make_surely(rt, s, head.as_ref(), line, maker, steps);
-        self.give_root(rt, s, head, steps);
+        self.take(call.rt, s);
+        let head = self.keep_head(s, call);
+        let answer = self.make_surely(s, call, head.as_ref(), line, maker);
+        self.give_root(s, call, head);
         answer
     }
 }

@@ -11,13 +11,13 @@ use Rattle.node_words.specs.shapes.Shape.{Shape}
 use Rattle.node_words.specs.declared.shares.Full.{Full}
 use Rattle.node_words.specs.Gathering.{Grew}
 use Rattle.node_words.specs.Plans.{Layout}
-use Rattle.core_laws.specs.contents.Versions.{IsKept}
+use Rattle.core_laws.specs.contents.Versions.{HoldsVersion}
 use Rattle.script.specs.declared.commands.Command.TheVariants.{Edit, Forget}
 use Rattle.script.specs.declared.commands.ScriptLine.{ScriptLine}
 use Rattle.transcript.specs.declared.answers.Answer.{Answer}
 use Rattle.transcript.specs.declared.answers.Answer.TheVariants as answers
 use Rattle.transcript.specs.declared.answers.LineAnswer.{LineAnswer}
-use Rattle.conformance.specs.Answers.{IsStanding, IsReadable, IsForgotten, Answers, no_version, forgotten, is_head, nothing_to_undo, nothing_to_redo, log_full, Names, target_at}
+use Rattle.conformance.specs.Answers.{IsUnforgotten, IsReadable, IsForgotten, Answers, no_version, forgotten, is_head, nothing_to_undo, nothing_to_redo, log_full, Names, target_at}
 use Rattle.conformance.specs.Kinds.{is_resting, answer_at, IsAfter}
 use Rattle.conformance.specs.Refusing.{refused_by}
 use Rattle.conformance.specs.Running.{IsSoFar, GrowsByRecord}
@@ -25,11 +25,11 @@ use Rattle.conformance.proofs.LineKinds.{kept_readable, marked_forgotten}
 use Rattle.conformance.specs.scripts.Keeping.{MadeAndMet, last_moment}
 use Rattle.conformance.specs.scripts.Sessions.{TakesLine}
 use Rattle.conformance.proofs.OfScripts.Arms.{rebuilt_arm, undone_arm, forgot_arm, full_arm, late_arm, resting_arm, before_within}
-use Rattle.one_store.specs.Known.{known_seen}
+use Rattle.one_store.specs.Known.{known_state}
 use Rattle.store_run.specs.declared.stored_versions.Versions.{Versions}
 use Rattle.store_run.specs.Kept.{plan_of, log_of, moment_of, noted_of, AreVersions, LosesTree, HoldsSame}
 use Rattle.store_run.specs.Steps.{IsVersionMarked, LeavesAll, SharesRootOfVersion, MakesRoot, MeetsBucket, GainsRecord, GainsMark}
-use Rattle.store_run.specs.Answering.{GoesOnBy, nothing_to_go_to}
+use Rattle.store_run.specs.Answering.{ExtendsBy, nothing_to_go_to}
 use Rattle.store_run.proofs.Holding.{same_again}
 use Rattle.store_run.proofs.Sparing.{gave_nothing}
 use Rattle.conformance.proofs.OfScripts.Going.{goes_to}
@@ -54,7 +54,7 @@ FitsSoFar v session l answer =
     → IsSoFar (plan_of v) v.models.models scripts transcripts script transcript (log_of v)
     → length scripts ≡ session → IsAfter script l
     → Answers (plan_of v) v.models.models (log_of v)
-    (IsStanding (log_of v).marks session l.line (moment_of v)) session l.line
+    (IsUnforgotten (log_of v).marks session l.line (moment_of v)) session l.line
     (moment_of v) l.command answer
 
 -- an answer that changes nothing
@@ -62,7 +62,7 @@ pub rests : (v w : Versions) (session : ℕ) (l : ScriptLine) (answer : Answer) 
     → LeavesAll v w
     → is_resting answer ≡ true → refused_by l.command (moment_of v) answer ≡ []
     → FitsSoFar v session l answer
-    → GoesOnBy v session l answer w
+    → ExtendsBy v session l answer w
 rests v w session l answer are leaves resting none fits = record {
   models = leaves.stay.models;
   plan = leaves.stay.spares.plan;
@@ -87,7 +87,7 @@ rests v w session l answer are leaves resting none fits = record {
 
 pub names_missing : (v : Versions) (session : ℕ) (l : ScriptLine) (version : ℕ)
     → moment_of v < version
-    → Names (IsStanding (log_of v).marks session l.line (moment_of v))
+    → Names (IsUnforgotten (log_of v).marks session l.line (moment_of v))
     (moment_of v) l.command version
     → FitsSoFar v session l (answers.NoVersion version)
 names_missing v session l version past names scripts transcripts script transcript so_far number after =
@@ -106,8 +106,8 @@ forgotten_now v session l version mark scripts transcripts script transcript so_
     (marked_forgotten (plan_of v) v.models.models scripts transcripts script transcript l
     (log_of v) mark.mark so_far after mark.listed))
 
-pub readable_now : (v : Versions) (session line version : ℕ) → IsKept (log_of v) version
-    → IsReadable (IsStanding (log_of v).marks session line (moment_of v)) (moment_of v) version
+pub readable_now : (v : Versions) (session line version : ℕ) → HoldsVersion (log_of v) version
+    → IsReadable (IsUnforgotten (log_of v).marks session line (moment_of v)) (moment_of v) version
 readable_now v session line version kept = kept_readable (log_of v) session line version kept
 
 -- ---- edits
@@ -121,7 +121,7 @@ module _ (v w : Versions) (session line : ℕ) (act : Act) (once : Bool) (are : 
   ms = v.models.models
 
   pub edit_full : (full : Full) → MeetsBucket v act full w
-      → GoesOnBy v session (record { line = line; command = Edit act once })
+      → ExtendsBy v session (record { line = line; command = Edit act once })
       (answers.Full full.level full.bucket) w
   edit_full full meets = record {
     models = meets.stay.models;
@@ -136,10 +136,10 @@ module _ (v w : Versions) (session line : ℕ) (act : Act) (once : Bool) (are : 
         let l : ScriptLine = record { line = line; command = Edit act once } in
         let done =
         full_arm (plan_of v) v.models.models session first line act once full.level full.bucket
-        (log_of v) (known_seen v.store) (known_seen w.store)
+        (log_of v) (known_state v.store) (known_state w.store)
         are.stored.sound.legal refl low
-        (meets_full v act are.stored edit full.level full.bucket (known_seen v.store)
-        (known_seen w.store) meets.fails) in
+        (meets_full v act are.stored edit full.level full.bucket (known_state v.store)
+        (known_state w.store) meets.fails) in
         subst (λ (new : Log). TakesLine (plan_of v) v.models.models session first l (log_of v) new
         (noted_of v) (noted_of w)
         (answer_at l (length new.records) (answers.Full full.level full.bucket)))
@@ -149,7 +149,7 @@ module _ (v w : Versions) (session line : ℕ) (act : Act) (once : Bool) (are : 
   pub edit_done : (u : Versions) (root : Option Rattle.node_words.specs.declared.shapes.names.Name.Name)
       → MakesRoot v act root u
       → GainsRecord u (record { session = session; line = line; act = act }) w
-      → GoesOnBy v session (record { line = line; command = Edit act once }) answers.Done w
+      → ExtendsBy v session (record { line = line; command = Edit act once }) answers.Done w
   edit_done u root makes appends = record {
     models = appends.only.models ∙ makes.stay.models;
     plan = appends.only.plan ∙ makes.stay.spares.plan;
@@ -190,7 +190,7 @@ module _ (v w : Versions) (session line : ℕ) (act : Act) (once : Bool) (are : 
   pub edit_late : (u : Versions) (root : Option Rattle.node_words.specs.declared.shapes.names.Name.Name)
       → MakesRoot v act root u
       → moment_of u ≡ 65535 → LeavesAll u w
-      → GoesOnBy v session (record { line = line; command = Edit act once }) answers.LogFull w
+      → ExtendsBy v session (record { line = line; command = Edit act once }) answers.LogFull w
   edit_late u root makes all leaves = record {
     models = leaves.stay.models ∙ makes.stay.models;
     plan = leaves.stay.spares.plan ∙ makes.stay.spares.plan;
@@ -232,7 +232,7 @@ pub go_done : (v u w : Versions) (session line : ℕ) (act : Act) (once : Bool) 
     (root : Option Rattle.node_words.specs.declared.shapes.names.Name.Name)
     → SharesRootOfVersion v to root u
     → GainsRecord u (record { session = session; line = line; act = act }) w
-    → GoesOnBy v session (record { line = line; command = Edit act once }) answers.Done w
+    → ExtendsBy v session (record { line = line; command = Edit act once }) answers.Done w
 go_done v u w session line act once to root shares appends = record {
   models = appends.only.models ∙ shares.stay.models;
   plan = appends.only.plan ∙ shares.stay.spares.plan;
@@ -274,7 +274,7 @@ module _ (v : Versions) (session line : ℕ) (act : Act) (once : Bool) (are : Ar
     where
       go : (a : Act) → is_edit a ≡ false → target_at v.records.items (moment_of v) a ≡ None
           → Answers (plan_of v) v.models.models (log_of v)
-          (IsStanding (log_of v).marks session line (moment_of v)) session line (moment_of v)
+          (IsUnforgotten (log_of v).marks session line (moment_of v)) session line (moment_of v)
           (Edit a once) (nothing_to_go_to a)
       go Undo o n = nothing_to_undo once n
       go Redo o n = nothing_to_redo once n
@@ -315,14 +315,14 @@ module _ (v : Versions) (session line : ℕ) (act : Act) (once : Bool) (are : Ar
       go (Tint t) = refl
 
   pub go_nowhere : target_at v.records.items (moment_of v) act ≡ None
-      → GoesOnBy v session (record { line = line; command = Edit act once })
+      → ExtendsBy v session (record { line = line; command = Edit act once })
       (nothing_to_go_to act) v
   go_nowhere none = rests v v session (record { line = line; command = Edit act once })
       (nothing_to_go_to act) are (gave_nothing v) nothing_rests nothing_refused (nothing_fits none)
 
   pub go_forgotten : (to : ℕ) → target_at v.records.items (moment_of v) act ≡ Some to
       → (to ≤ moment_of v) × IsVersionMarked v to
-      → GoesOnBy v session (record { line = line; command = Edit act once })
+      → ExtendsBy v session (record { line = line; command = Edit act once })
       (answers.Forgotten to) v
   go_forgotten to goes mark =
       rests v v session (record { line = line; command = Edit act once })
@@ -334,13 +334,13 @@ module _ (v : Versions) (session line : ℕ) (act : Act) (once : Bool) (are : Ar
 
   pub go_past : (to : ℕ) (answer : Answer) → target_at v.records.items (moment_of v) act ≡ Some to
       → moment_of v < to
-      → GoesOnBy v session (record { line = line; command = Edit act once }) answer v
+      → ExtendsBy v session (record { line = line; command = Edit act once }) answer v
   go_past to answer goes past = absurd
       (let g = goes_to (log_of v) act to other goes in let le = g.there in omega arith)
 
   pub go_late : (to : ℕ) → target_at v.records.items (moment_of v) act ≡ Some to
-      → IsKept (log_of v) to → moment_of v ≡ 65535
-      → GoesOnBy v session (record { line = line; command = Edit act once }) answers.LogFull v
+      → HoldsVersion (log_of v) to → moment_of v ≡ 65535
+      → ExtendsBy v session (record { line = line; command = Edit act once }) answers.LogFull v
   go_late to goes kept all =
       rests v v session (record { line = line; command = Edit act once }) answers.LogFull are
       (gave_nothing v) refl refl
@@ -349,13 +349,13 @@ module _ (v : Versions) (session line : ℕ) (act : Act) (once : Bool) (are : Ar
 
 -- ---- forgetting
 
-pub kept_earlier : (v : Versions) (version at : ℕ) → IsKept (log_of v) version → at ≡ moment_of v
+pub kept_earlier : (v : Versions) (version at : ℕ) → HoldsVersion (log_of v) version → at ≡ moment_of v
     → version ≢ at → version < moment_of v
 kept_earlier v version at kept now other = let le = kept.there in omega (arith, other, now)
 
 pub forgot_version : (v w : Versions) (session line version at : ℕ) → at ≡ moment_of v
     → GainsMark v (record { version = version; at = at; session = session; line = line }) w
-    → GoesOnBy v session (record { line = line; command = Forget version })
+    → ExtendsBy v session (record { line = line; command = Forget version })
     (answers.Forgot version) w
 forgot_version v w session line version at now marks = record {
   models = marks.only.models;
@@ -381,17 +381,17 @@ forgot_version v w session line version at now marks = record {
 
 module _ (v : Versions) (session line : ℕ) (are : AreVersions v) where
   pub forgets_head : (version : ℕ) → version ≡ moment_of v
-      → GoesOnBy v session (record { line = line; command = Forget version }) answers.IsHead v
+      → ExtendsBy v session (record { line = line; command = Forget version }) answers.IsHead v
   forgets_head version is =
       rests v v session (record { line = line; command = Forget version }) answers.IsHead are
       (gave_nothing v) refl refl
       (λ scripts transcripts script transcript so_far number after.
       subst (λ (n : ℕ). Answers (plan_of v) v.models.models (log_of v)
-      (IsStanding (log_of v).marks session line (moment_of v)) session line (moment_of v)
+      (IsUnforgotten (log_of v).marks session line (moment_of v)) session line (moment_of v)
       (Forget n) answers.IsHead) (sym is) is_head)
 
   pub forget_missing : (version : ℕ) → moment_of v < version
-      → GoesOnBy v session (record { line = line; command = Forget version })
+      → ExtendsBy v session (record { line = line; command = Forget version })
       (answers.NoVersion version) v
   forget_missing version past =
       rests v v session (record { line = line; command = Forget version })
@@ -399,7 +399,7 @@ module _ (v : Versions) (session line : ℕ) (are : AreVersions v) where
       (names_missing v session (record { line = line; command = Forget version }) version past refl)
 
   pub forget_marked : (version : ℕ) → (version ≤ moment_of v) × IsVersionMarked v version
-      → GoesOnBy v session (record { line = line; command = Forget version })
+      → ExtendsBy v session (record { line = line; command = Forget version })
       (answers.Forgotten version) v
   forget_marked version mark =
       rests v v session (record { line = line; command = Forget version })

@@ -14,11 +14,11 @@ use Rattle.node_words.specs.declared.shapes.names.Name.{Name}
 use Rattle.node_words.specs.shapes.Weights.{weigh}
 use Rattle.node_words.proofs.OfShapes.WeightLaws.{weigh-nil}
 use Rattle.node_words.specs.Plans.{Layout}
-use Rattle.one_store.specs.Spots.{versions}
+use Rattle.one_store.specs.WordIds.{versions}
 use Rattle.core_laws.specs.Counting.{holdings}
 use Rattle.core_laws.proofs.RootCells.{empty_sound}
 use Rattle.one_store.specs.entries.Words.{book_in}
-use Rattle.one_store.specs.notes.Told.{Told, nothing_told}
+use Rattle.one_store.specs.notes.StoreNotes.{StoreNotes, no_notes}
 use Rattle.act_rebuilds.specs.Drawn.{HaveTints}
 use Rattle.undo.specs.Trails.{trail_position}
 use Rattle.one_store.specs.Known.{Known, root_names, stored_root}
@@ -53,7 +53,7 @@ module _ (v : Versions) (p : Layout) (side : v.side ≡ p.side) (plan : plan_of 
     (free : (n : Name) → book_in v.store.words n ≡ 0)
     (tint : Bool) (is : v.models.tint ≡ tint)
     (roots : (place : ℕ) → stored_root v.store.roots place ≡ None)
-    (told : v.store.told ≡ nothing_told)
+    (told : v.store.told ≡ no_notes)
     (records : v.records.items ≡ []) (marks : v.marks.items ≡ replicate versions None)
     (trail : trail_position v.trail ≡ beginning) where
   none_marked : (version : ℕ) → mark_in v.marks.items version ≡ None
@@ -80,7 +80,7 @@ module _ (v : Versions) (p : Layout) (side : v.side ≡ p.side) (plan : plan_of 
   }
 
   pub begun_nothing : HoldsNothing v.store
-  begun_nothing = record { weighs = λ f. ap (λ (t : Told). weigh f t.held) told ∙ weigh-nil f }
+  begun_nothing = record { weighs = λ f. ap (λ (t : StoreNotes). weigh f t.held) told ∙ weigh-nil f }
 
   pub begun_are : IsLargeStore tint p.side → HaveTints tint v.models.models
       → AreStoredVersions v
@@ -96,7 +96,7 @@ module _ (v : Versions) (p : Layout) (side : v.side ≡ p.side) (plan : plan_of 
             records = records i;
             marks = none_listed (mark_in v.marks.items) versions none_marked i;
           };
-          held = λ f. ap (λ (t : Told). holdings f (root_names t.held ∷ [])) told ∙ no_holdings f;
+          held = λ f. ap (λ (t : StoreNotes). holdings f (root_names t.held ∷ [])) told ∙ no_holdings f;
         })).versions;
     suits = subst (λ (rs : List Record). All (λ r. suits_tints v.models.tint r.act ≡ true) rs)
         (sym records) (All-nil _);
@@ -111,7 +111,7 @@ module _ (v : Versions) (p : Layout) (side : v.side ≡ p.side) (plan : plan_of 
   }
 
   pub begun_noted : noted_of v ≡ record { made = []; met = [] }
-  begun_noted = ap (λ (t : Told). record { made = t.made; met = t.met }) told
+  begun_noted = ap (λ (t : StoreNotes). record { made = t.made; met = t.met }) told
 
 -- where cells have no tints
 pub begun_plain : (v : Versions) → AreStoredVersions v → v.models.tint ≡ false → AreVersions v

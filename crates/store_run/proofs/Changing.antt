@@ -12,7 +12,7 @@ use Rattle.history_model.specs.Logs.{Log}
 use Rattle.history_model.specs.Moments.{world_has}
 use Rattle.history_model.specs.Positions.{Position}
 use Rattle.history_model.specs.Worlds.{is_edit}
-use Rattle.core_laws.specs.contents.Versions.{IsKept}
+use Rattle.core_laws.specs.contents.Versions.{HoldsVersion}
 use Rattle.node_words.specs.declared.shapes.names.Name.{Name}
 use Rattle.std.specs.Prelude.{Option}
 use Rattle.node_words.specs.declared.shares.Full.{Full}
@@ -24,7 +24,7 @@ use Rattle.store_run.specs.declared.stored_versions.Versions.{Versions}
 use Rattle.store_run.specs.Kept.{log_of, moment_of}
 use Rattle.store_run.specs.Steps.{IsVersionMarked, LeavesAll, SharesRootOfVersion, MakesRoot, MeetsBucket, GainsRecord, GainsMark}
 use Rattle.store_run.specs.Answering.{nothing_to_go_to}
-use Rattle.store_run.specs.Changing.{log_with_record, HasKeptTarget, Changes, AnswersForget, MakesVersion}
+use Rattle.store_run.specs.Changing.{log_with_record, HasHeldTarget, Changes, AnswersForget, MakesVersion}
 
 abbrev record_of : ℕ → ℕ → Act → Record
 record_of session line act = record { session = session; line = line; act = act }
@@ -43,12 +43,12 @@ appended v u w r same appends =
     grown (log_of u)
     (log_of w) r appends.grows.side appends.grows.coloured appends.grows.records appends.grows.marks ∙ ap (λ (l : Log). log_with_record l r) same
 
-edit_way : (log : Log) (act : Act) → is_edit act ≡ true → HasKeptTarget log act
+edit_way : (log : Log) (act : Act) → is_edit act ≡ true → HasHeldTarget log act
 edit_way log act edit = record { other = λ no. absurd (false≢true (sym no ∙ edit)) }
 
 -- a version that has a mark isn't kept
 pub marked_gone : (v : Versions) (version : ℕ) → IsVersionMarked v version
-    → ¬ IsKept (log_of v) version
+    → ¬ HoldsVersion (log_of v) version
 marked_gone v version mark kept =
     All-contains (λ (m : Mark). m.version ≢ version)
     (log_of v).marks mark.mark kept.unmarked mark.listed mark.same
@@ -97,13 +97,13 @@ module _ (v : Versions) (session line : ℕ) (act : Act) (other : is_edit act �
       (let g = goes_to (log_of v) act to other goes in let le = g.there in omega arith)
 
   pub go_late_logs : (to : ℕ) → target_at v.records.items (moment_of v) act ≡ Some to
-      → IsKept (log_of v) to → moment_of v ≡ 65535
+      → HoldsVersion (log_of v) to → moment_of v ≡ 65535
       → Changes (log_of v) (record_of session line act) answers.LogFull (log_of v)
   go_late_logs to goes kept all = Changes.log_full (log_of v) all
       (record { other = λ _. (to, record { other = other; goes = goes }, kept) }) refl
 
   pub go_done_logs : (u w : Versions) (to : ℕ) (root : Option Name)
-      → target_at v.records.items (moment_of v) act ≡ Some to → IsKept (log_of v) to
+      → target_at v.records.items (moment_of v) act ≡ Some to → HoldsVersion (log_of v) to
       → moment_of v ≢ 65535 → moment_of v ≤ 65535 → SharesRootOfVersion v to root u
       → GainsRecord u (record_of session line act) w
       → Changes (log_of v) (record_of session line act) answers.Done (log_of w)
@@ -127,7 +127,7 @@ module _ (v : Versions) (mark : Mark) where
       → AnswersForget (log_of v) mark answers.IsHead (log_of v)
   forgets_head_logs is = AnswersForget.is_head is
 
-  pub forgot_logs : (w : Versions) → IsKept (log_of v) mark.version → mark.version < moment_of v
+  pub forgot_logs : (w : Versions) → HoldsVersion (log_of v) mark.version → mark.version < moment_of v
       → GainsMark v mark w
       → AnswersForget (log_of v) mark (answers.Forgot mark.version) (log_of w)
   forgot_logs w kept earlier marks =

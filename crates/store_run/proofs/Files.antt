@@ -3,7 +3,7 @@ use Rattle.std.proofs.Common.{◌≡◌, ℕ, ◌+◌, ◌-◌, ◌^◌, ◌<◌
 use Rattle.vw_cell.specs.declared.boxes.Boxed.{Boxed}
 use Rattle.vw_cell.specs.declared.cells.Cell.{Cell}
 use Rattle.vw_cell.specs.Counts.{cell_at}
-use Rattle.vw_cell.specs.Places.{IsInBlock, FitsAt, block_side}
+use Rattle.vw_cell.specs.Places.{IsInBlock, IsInWorld, FitsAt, block_side}
 use Rattle.vox_read.specs.declared.voxels.Voxel.{Voxel}
 use Rattle.vox_write.specs.Written.{model_file}
 use Rattle.history_model.specs.Worlds.{World}
@@ -21,7 +21,7 @@ SameIn b f g = (x y z : ℕ) → x < b.size.x → y < b.size.y → z < b.size.z
     → f (cell_at (b.at.x + x) (b.at.y + y) (b.at.z + z)) ≡ g
     (cell_at (b.at.x + x) (b.at.y + y) (b.at.z + z))
 
-joined-same : (n : ℕ) (f g : ℕ → List Voxel) → ((i : ℕ) → i < n → f i ≡ g i)
+pub joined-same : (n : ℕ) (f g : ℕ → List Voxel) → ((i : ℕ) → i < n → f i ≡ g i)
     → voxels_joined n f ≡ voxels_joined n g
 unfolding voxels_joined
 joined-same zero f g same = refl
@@ -50,13 +50,11 @@ from_origin : (x : ℕ) → x - 0 ≡ x
 from_origin x = omega arith
 
 -- a shape has the cells of the world that it shows
-pub shown_in : (side : ℕ) (b : Boxed) (s : Shape) (w : World) → ShowsCells (world_block side) s w
-    → FitsAt b.at b.size (2 ^ side)
-    → SameIn b (cells_of (side - 2) s) w
-shown_in side b s w shows fits x y z of_x of_y of_z =
-    let c = cell_at (b.at.x + x) (b.at.y + y) (b.at.z + z) in
+pub shown_at : (side : ℕ) (s : Shape) (w : World) → ShowsCells (world_block side) s w → (c : Cell)
+    → IsInWorld (2 ^ side) c → cells_of (side - 2) s c ≡ w c
+shown_at side s w shows c inside =
     let wide = world_within side in
-    let fx = fits.x in let fy = fits.y in let fz = fits.z in
+    let x = inside.x in let y = inside.y in let z = inside.z in
     let there : IsInBlock (world_block side) c =
     record {
       x = (omega arith, omega arith);
@@ -66,3 +64,11 @@ shown_in side b s w shows fits x y z of_x of_y of_z =
     } in
     (λ t. has (side - 2) s (sym (from_origin c.x) t) (sym (from_origin c.y) t)
     (sym (from_origin c.z) t)) ∙ shows.each c there
+
+pub shown_in : (side : ℕ) (b : Boxed) (s : Shape) (w : World) → ShowsCells (world_block side) s w
+    → FitsAt b.at b.size (2 ^ side)
+    → SameIn b (cells_of (side - 2) s) w
+shown_in side b s w shows fits x y z of_x of_y of_z =
+    let fx = fits.x in let fy = fits.y in let fz = fits.z in
+    shown_at side s w shows (cell_at (b.at.x + x) (b.at.y + y) (b.at.z + z))
+    (record { x = omega arith; y = omega arith; z = omega arith })

@@ -16,14 +16,14 @@ use Rattle.node_words.specs.Gathering.{Grew, unchanged, one}
 use Rattle.node_words.specs.Held.{Wanted}
 use Rattle.node_words.specs.Plans.{Layout}
 use Rattle.conformance.specs.possible.Needed.{Span}
-use Rattle.conformance.specs.Answers.{GoesOn}
+use Rattle.conformance.specs.Answers.{ExtendsLog}
 use Rattle.conformance.specs.scripts.Keeping.{MadeAndMet, IsMadeFor, IsMadeInRun, IsWanted}
 use Rattle.conformance.proofs.OfScripts.PossibleLaws.{enough_possible}
 use Rattle.conformance.proofs.OfScripts.Refusals.{made_in_stays, wanted_stays}
 use Rattle.store_run.specs.declared.stored_versions.Versions.{Versions}
 use Rattle.store_run.specs.Kept.{plan_of, log_of, noted_of, AreStoredVersions}
 use Rattle.store_run.specs.Steps.{MeetsBucket}
-use Rattle.store_run.specs.Replaying.{ReplayState, replay_state, spans_from, MayFillReplay, MakesOnlyParts, TakesEdit, TakesWay, FillsBucket, RefusesRecord}
+use Rattle.store_run.specs.Replaying.{ReplayState, replay_state, spans_from, MayFillReplay, MakesOnlyParts, TakesEdit, TakesUndo, FillsBucket, RefusesRecord}
 use Rattle.store_run.specs.declared.replaying.ReplayRefused.TheVariants as refusals
 use Rattle.store_run.proofs.Targets.{grew_wanted}
 
@@ -42,7 +42,7 @@ spans_push n m (q ∷ more) r is =
 abbrev log_with : List Record → Log
 log_with records = record { side = 0; coloured = false; records = records; marks = [] }
 
-goes_behind : (records more : List Record) → GoesOn (log_with records) (log_with (records ++ more))
+goes_behind : (records more : List Record) → ExtendsLog (log_with records) (log_with (records ++ more))
 goes_behind records more =
     record { side = refl; coloured = refl; more = more; records = refl; marks = All-nil _ }
 
@@ -161,7 +161,7 @@ edit_parts s u w r is are edit only takes =
 
 pub way_parts : (s : ReplayState) (u w : Versions) (r : Record) → replay_state u ≡ s
     → MakesOnlyParts s
-    → TakesWay u r w → MakesOnlyParts (replay_state w)
+    → TakesUndo u r w → MakesOnlyParts (replay_state w)
 way_parts s u w r is only takes =
     let here : MakesOnlyParts (replay_state u) =
     subst (λ (t : ReplayState). MakesOnlyParts t) (sym is) only in
@@ -204,7 +204,7 @@ state_as s v u is models log store =
     }) ∙ is
 
 pub way_made : (s : ReplayState) (u w : Versions) (r : Record) (taken : Bool) → replay_state u ≡ s
-    → MakesOnlyParts s → (taken ≡ true → TakesWay u r w) → (taken ≡ false → w ≡ u)
+    → MakesOnlyParts s → (taken ≡ true → TakesUndo u r w) → (taken ≡ false → w ≡ u)
     → MakesOnlyParts (replay_state w)
 way_made s u w r true is only takes stays = way_parts s u w r is only (takes refl)
 way_made s u w r false is only takes stays =

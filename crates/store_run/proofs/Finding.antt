@@ -2,8 +2,8 @@
 use Rattle.std.proofs.Common.{◌≡◌, ℕ, ◌<◌, ◌≤◌, Some, None, Option, List, length, get_or, sym, ◌∙◌, arith}
 use Rattle.std.proofs.lemmas.List.{get_or_default}
 use Rattle.history_model.specs.declared.histories.Mark.{Mark}
-use Rattle.one_store.specs.Spots.{versions}
-use Rattle.core_laws.specs.contents.Versions.{IsKept}
+use Rattle.one_store.specs.WordIds.{versions}
+use Rattle.core_laws.specs.contents.Versions.{HoldsVersion}
 use Rattle.store_run.specs.declared.stored_versions.Versions.{Versions}
 use Rattle.store_run.specs.Kept.{log_of, moment_of, mark_in, AreStoredVersions}
 use Rattle.store_run.specs.Steps.{IsVersionMarked}
@@ -15,7 +15,7 @@ in_places v version are le = let few = are.sound.legal.few in omega arith
 
 pub kept_at : (v : Versions) (version : ℕ) → AreStoredVersions v → version ≤ moment_of v
     → mark_in v.marks.items version ≡ None
-    → IsKept (log_of v) version
+    → HoldsVersion (log_of v) version
 kept_at v version are le none = record {
   there = le;
   unmarked = unmarked_at (mark_in v.marks.items) versions version are.of_versions none;

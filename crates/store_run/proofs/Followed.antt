@@ -8,7 +8,7 @@ use Rattle.history_model.specs.Logs.{IsVersionHeld, HasTarget, MayFollow}
 use Rattle.history_model.specs.Positions.{position_after, first_of}
 use Rattle.history_model.specs.Worlds.{is_edit}
 use Rattle.node_words.specs.Plans.{Layout}
-use Rattle.core_laws.specs.contents.Versions.{IsKept}
+use Rattle.core_laws.specs.contents.Versions.{HoldsVersion}
 use Rattle.conformance.specs.Answers.{target_at}
 use Rattle.conformance.proofs.LineKinds.{undo_target, redo_target}
 use Rattle.conformance.proofs.OfScripts.Going.{goes_to}
@@ -48,7 +48,7 @@ pub followed_kept : (v : Versions) (r : Record) (to : ℕ) → AreStoredVersions
     → is_edit r.act ≡ false
     → Some to ≡ target_at v.records.items (moment_of v) r.act
     → MayFollow (log_of v).marks (moment_of v + 1) r.act (position_after v.records.items)
-    → IsKept (log_of v) to
+    → HoldsVersion (log_of v) to
 followed_kept v r to are other goes may =
     let held =
     follows_held (log_of v).marks (moment_of v + 1) r.act v.records.items to other goes may in
@@ -118,7 +118,7 @@ replayed_as w u is = ap replayed is
 -- ---- a mark
 
 pub marks_come : (v w : Versions) (mark : Mark) → AreStoredVersions v → AreStoredVersions w
-    → IsKept (log_of v) mark.version → mark.version < moment_of v → GainsMark v mark w
+    → HoldsVersion (log_of v) mark.version → mark.version < moment_of v → GainsMark v mark w
     → LogGainsMark (log_of v) mark (log_of w)
 marks_come v w mark of_v of_w kept earlier marks = record {
   kept = kept;

@@ -6,7 +6,7 @@ use Rattle.vw_cell.specs.declared.cells.Cell.{Cell}
 use Rattle.vw_cell.specs.Places.{IsInWorld}
 use Rattle.history_model.specs.declared.acts.Act.{Act}
 use Rattle.history_model.specs.declared.acts.Act.TheVariants.{Fill, Erase, Ball, Carve, Copy, Stamp, Tint, Undo, Redo}
-use Rattle.history_model.specs.Logs.{FitsWorld, IsPlain, kept_side, suits_tints}
+use Rattle.history_model.specs.Logs.{FitsWorld, IsPlain, side_of_world, suits_tints}
 use Rattle.history_model.specs.Planes.{StoresTints, tells}
 use Rattle.history_model.specs.Stores.{stored_in}
 use Rattle.history_model.specs.Tints.{SameTints}
@@ -150,7 +150,7 @@ module _ (v : Versions) (a b : ℕ) (are : AreStoredVersions v) where
       (stored_in (2 ^ side) v.models.models v.records.items b)
 
   abbrev SameHere : Bool → Type 0
-  SameHere tint = SameTints (kept_side tint (2 ^ v.side)) (tints_of v a) (tints_of v b)
+  SameHere tint = SameTints (side_of_world tint (2 ^ v.side)) (tints_of v a) (tints_of v b)
 
   pub tints_by_cells : SameStored (plan_of v).side
       → SameTints (side_of v) (tints_of v a) (tints_of v b)

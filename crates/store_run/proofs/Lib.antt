@@ -10,6 +10,8 @@ pub mod Targets
 pub mod Answering
 pub mod Ending
 pub mod Files
+pub mod Comparing
+pub mod Seeing
 pub mod Opening
 pub mod Changing
 pub mod Taking

@@ -12,9 +12,9 @@ use Rattle.history_model.specs.Laws.{position_of_next}
 use Rattle.node_words.specs.declared.shapes.names.Name.{Name}
 use Rattle.node_words.specs.shapes.Weights.{weight_of, number_of_trees}
 use Rattle.node_words.specs.Plans.{Layout}
-use Rattle.one_store.specs.Spots.{versions}
+use Rattle.one_store.specs.WordIds.{versions}
 use Rattle.core_laws.specs.contents.MarkLists.{marks_below, AreOfVersions}
-use Rattle.core_laws.specs.contents.Versions.{IsKept, MarkComes}
+use Rattle.core_laws.specs.contents.Versions.{HoldsVersion, InsertsMark}
 use Rattle.core_laws.proofs.OfContents.MarkReadings.{mark_comes}
 use Rattle.core_laws.specs.Events.{PutsRoot, TakesRoot}
 use Rattle.core_laws.specs.LogEvents.{MayAppend, appends, forgets}
@@ -172,7 +172,7 @@ marked_log v mark =
 
 module _ (v : Versions) (s : Known) (mark : Mark) (root : Option Name) (number : ℕ)
     (are : AreStoredVersions v) (st : IsStore v.store number)
-    (kept : IsKept (log_of v) mark.version) (earlier : mark.version < moment_of v)
+    (kept : HoldsVersion (log_of v) mark.version) (earlier : mark.version < moment_of v)
     (now : mark.at ≡ moment_of v)
     (event : TakesRoot (plan_of v) 0 mark.version (core_of v.store) (core_of s)) where
   in_range : mark.version < versions
@@ -185,7 +185,7 @@ module _ (v : Versions) (s : Known) (mark : Mark) (root : Option Name) (number :
   there : mark.version < length v.marks.items
   there = let all = are.places in let lt = in_range in omega arith
 
-  comes : MarkComes (log_of v).marks mark (marked_log v mark).marks
+  comes : InsertsMark (log_of v).marks mark (marked_log v mark).marks
   comes = mark_comes (mark_in v.marks.items)
       (mark_in (set v.marks.items mark.version (Some mark))) mark versions in_range
       (gets_mark v.marks.items mark there free) are.of_versions

@@ -1,17 +1,17 @@
 -- What a change makes of a world that stands open.
-use Rattle.std.proofs.Common.{◌≡◌, ◌↔◌, ℕ, ◌-◌, ◌^◌, Bool, Option, List, ◌∙◌, ap, subst}
+use Rattle.std.proofs.Common.{◌≡◌, ◌↔◌, ℕ, ◌-◌, ◌^◌, Bool, false, Option, List, ◌∙◌, ap, subst}
 use Rattle.std.specs.declared.vec.Vec.{Vec}
 use Rattle.std.specs.Prelude.{Result, Ok, Err, IfOk, IsTrue}
 use Rattle.vw_cell.specs.declared.boxes.Boxed.{Boxed}
 use Rattle.vw_cell.specs.Places.{FitsAt}
 use Rattle.vox_read.specs.Contents.{Content}
 use Rattle.history_model.specs.declared.questions.Question.{Question}
-use Rattle.history_model.specs.Logs.{Log, kept_side}
+use Rattle.history_model.specs.Logs.{Log, side_of_world}
 use Rattle.history_model.specs.Moments.{world_has, world_tint}
 use Rattle.node_words.specs.declared.shapes.names.Name.{Name}
 use Rattle.node_words.specs.shapes.Tree.{shape_of}
 use Rattle.node_words.proofs.HeldLaws.{held_reached}
-use Rattle.core_laws.specs.contents.Versions.{IsKept, SameWorld}
+use Rattle.core_laws.specs.contents.Versions.{HoldsVersion, SameWorld}
 use Rattle.core_laws.proofs.RootCells.{same_cells, same_root}
 use Rattle.node_words.specs.descent.Roots.{IsBlockOf, ForWorld, cells_of}
 use Rattle.extract.specs.Saved.{file_of_box}
@@ -19,17 +19,17 @@ use Rattle.one_store.specs.Known.{IsStore, stored_root}
 use Rattle.script.specs.declared.commands.ScriptLine.{ScriptLine}
 use Rattle.transcript.specs.declared.answers.Answer.{Answer}
 use Rattle.conformance.specs.Kinds.{answer_at}
-use Rattle.conformance.specs.Telling.{Tells}
-use Rattle.conformance.specs.scripts.Sessions.{GoesOnWith}
+use Rattle.conformance.specs.QuestionAnswers.{AnswersTo}
+use Rattle.conformance.specs.scripts.Sessions.{ExtendsWith}
 use Rattle.store_run.specs.declared.stored_versions.Versions.{Versions}
 use Rattle.store_run.specs.Kept.{plan_of, log_of, moment_of, noted_of, world_of, tints_of, AreVersions, HoldsTree}
-use Rattle.store_run.specs.Steps.{StayVersions, TellsHeldVersion}
+use Rattle.store_run.specs.Steps.{StayVersions, AnswersHeldVersion}
 use Rattle.store_run.proofs.Rebuilding.{shows_plainly}
 use Rattle.store_run.proofs.Files.{same_file, shown_in}
 use Rattle.store_run.proofs.KeptWorlds.{same_in_world, same_in_store}
 use Rattle.store_run.proofs.Sparing.{versions_sound}
-use Rattle.store_run.specs.Answering.{GoesOnBy}
-use Rattle.store_run.specs.Worlds.{WorldState, world_state}
+use Rattle.store_run.specs.Answering.{ExtendsBy}
+use Rattle.store_run.specs.Worlds.{WorldState, world_state, AreVersionsAtRest, AreStoredAtRest}
 use Rattle.store_run.specs.Changing.{Changes, MakesVersion}
 use Rattle.store_run.proofs.Changing.{made_version}
 use Rattle.transcript.specs.declared.answers.Answer.TheVariants.{Done}
@@ -50,17 +50,17 @@ room_same u v s is models log store =
     ∙ is
 
 module _ (v w : Versions) (s : WorldState) (is : world_state v ≡ s) (session : ℕ) (l : ScriptLine)
-    (answer : Answer) (g : GoesOnBy v session l answer w) where
+    (answer : Answer) (g : ExtendsBy v session l answer w) where
   pub changed_plan : plan_of w ≡ s.plan
   changed_plan = g.plan ∙ ap (λ (t : WorldState). t.plan) is
 
   pub changed_models : w.models.models ≡ s.models
   changed_models = g.models ∙ ap (λ (t : WorldState). t.models) is
 
-  pub changed_goes : GoesOnWith s.plan s.models session l s.log (log_of w) s.noted (noted_of w)
+  pub changed_goes : ExtendsWith s.plan s.models session l s.log (log_of w) s.noted (noted_of w)
       (answer_at l (moment_of w) answer)
   changed_goes =
-      subst (λ (t : WorldState). GoesOnWith t.plan t.models session l t.log (log_of w) t.noted
+      subst (λ (t : WorldState). ExtendsWith t.plan t.models session l t.log (log_of w) t.noted
       (noted_of w) (answer_at l (moment_of w) answer)) is g.goes_on
 
 module _ (v w : Versions) (s : WorldState) (is : world_state v ≡ s) (r : Record) (answer : Answer)
@@ -71,26 +71,34 @@ module _ (v w : Versions) (s : WorldState) (is : world_state v ≡ s) (r : Recor
   pub changed_makes : answer ≡ Done → MakesVersion s.models s.log r.act (log_of w)
   changed_makes done = made_version s.models s.log (log_of w) r answer changed_logs done
 
+-- what was replayed of a world whose cells have no tints
+pub rests_plain : (v : Versions) (s : WorldState) → world_state v ≡ s → AreStoredAtRest v
+    → s.log.coloured ≡ false → AreVersionsAtRest v
+rests_plain v s is rest plain = record {
+  are = record { stored = rest.are; plain = ap (λ (t : WorldState). t.log.coloured) is ∙ plain };
+  nothing = rest.nothing;
+}
+
 -- ---- a question about a version
 
 pub asked_told : (v : Versions) (s : WorldState) (version : ℕ) (question : Question)
     (answer : Answer) → world_state v ≡ s → AreVersions v
-    → TellsHeldVersion v version question answer
-    → Tells (2 ^ s.plan.side) (world_has s.models s.log.records version)
+    → AnswersHeldVersion v version question answer
+    → AnswersTo (2 ^ s.plan.side) (world_has s.models s.log.records version)
     (world_tint s.models s.log.records version) question answer
 asked_told v s version question answer is are told =
-    subst (λ (t : WorldState). Tells (2 ^ t.plan.side) (world_has t.models t.log.records version)
+    subst (λ (t : WorldState). AnswersTo (2 ^ t.plan.side) (world_has t.models t.log.records version)
     (world_tint t.models t.log.records version) question answer) is
-    (subst (λ (l : ℕ). Tells (2 ^ l) (world_of v version)
+    (subst (λ (l : ℕ). AnswersTo (2 ^ l) (world_of v version)
     (tints_of v version) question answer) are.stored.side
-    (subst (λ (b : Bool). Tells (kept_side b (2 ^ v.side)) (world_of v version)
+    (subst (λ (b : Bool). AnswersTo (side_of_world b (2 ^ v.side)) (world_of v version)
     (tints_of v version) question answer) are.plain told))
 
 -- ---- the file of a box of a version
 
 pub root_file : {E Z : Type 0} (v : Versions) (version : ℕ) (base : Option Name) (part : Boxed)
     (result : Result (Vec ℕ Z) E) → AreVersions v
-    → IsKept (log_of v) version → HoldsTree v.store base → base ≡ stored_root v.store.roots version
+    → HoldsVersion (log_of v) version → HoldsTree v.store base → base ≡ stored_root v.store.roots version
     → FitsAt part.at part.size (2 ^ v.side)
     → IfOk result
     (λ file. ForWorld v.store.told.held v.side base
@@ -124,7 +132,7 @@ file_still {E} {Z} a v version part result stay told =
 
 -- they have the same cells exactly where they have one root
 pub same_by_roots : (v : Versions) (number a b : ℕ) (is : Bool) → AreVersions v
-    → IsStore v.store number → IsKept (log_of v) a → IsKept (log_of v) b
+    → IsStore v.store number → HoldsVersion (log_of v) a → HoldsVersion (log_of v) b
     → (IsTrue is ↔ (stored_root v.store.roots a ≡ stored_root v.store.roots b))
     → (IsTrue is ↔ SameWorld (2 ^ (plan_of v).side) (world_of v a) (world_of v b))
 same_by_roots v number a b is are st of_a of_b roots = (

@@ -3,7 +3,7 @@ use Rattle.std.proofs.Common.{◌≡◌, ℕ, ◌+◌, ◌-◌, ◌^◌, ◌≤�
 use Rattle.vox_read.specs.Contents.{Content}
 use Rattle.history_model.specs.declared.acts.Act.{Act}
 use Rattle.history_model.specs.declared.acts.Act.TheVariants.{Fill, Erase, Ball, Carve, Copy, Stamp, Tint, Undo, Redo}
-use Rattle.history_model.specs.Logs.{Log, IsLegal, kept_side, suits_tints, world_side}
+use Rattle.history_model.specs.Logs.{Log, IsLegal, side_of_world, suits_tints, world_side}
 use Rattle.history_model.specs.Stores.{edited_in, stored_in}
 use Rattle.history_model.specs.Worlds.{World}
 use Rattle.node_words.specs.declared.shapes.names.Name.{Name}
@@ -14,40 +14,40 @@ use Rattle.history_model.specs.declared.questions.Question.{Question}
 use Rattle.history_model.specs.Logs.{FitsWorld}
 use Rattle.script.specs.Fitting.{QuestionFits}
 use Rattle.transcript.specs.declared.answers.Answer.{Answer}
-use Rattle.conformance.specs.Telling.{Tells}
+use Rattle.conformance.specs.QuestionAnswers.{AnswersTo}
 use Rattle.core_laws.proofs.OfTints.VersionLaws.{versions_plainly_tinted}
-use Rattle.act_rebuilds.specs.questions.TellsRoots.{TellsRoot, TellsTinted}
+use Rattle.act_rebuilds.specs.questions.AnswersByRoots.{AnswersByRoot, AnswersByTints}
 use Rattle.node_words.specs.descent.Roots.{HoldsRoot}
 use Rattle.node_words.specs.shapes.Weights.{weigh, weight_of, number_of_trees}
 use Rattle.node_words.proofs.OfShapes.TreeLaws.{level_of, gone_from_root}
 use Rattle.node_words.proofs.OfShapes.WeightLaws.{weight_of-there, weight_of-one}
 use Rattle.node_words.specs.declared.shares.Full.{Full}
-use Rattle.node_words.specs.Held.{Seen, IsHeld, Wanted, IsSought}
+use Rattle.node_words.specs.Held.{StoreState, IsHeld, Wanted, IsSought}
 use Rattle.node_words.specs.Gathering.{Grew}
 use Rattle.node_words.proofs.GatherLaws.{grew_into}
 use Rattle.node_words.specs.Plans.{Layout}
 use Rattle.core_laws.specs.contents.Aligned.{top, world_block}
-use Rattle.core_laws.specs.contents.Versions.{IsKept}
+use Rattle.core_laws.specs.contents.Versions.{HoldsVersion}
 use Rattle.core_laws.proofs.SeenNodes.{gone_tree}
 use Rattle.edit_walk.specs.cells.Worlds.{ShowsWorld, Rebuilt}
 use Rattle.act_rebuilds.specs.Acts.{IsLargeFor, room_for, IsOfAct, MakesAct}
 use Rattle.act_rebuilds.proofs.Rooms.{large_for_all, least_room}
 use Rattle.act_rebuilds.specs.Made.{FailsBy}
 use Rattle.one_store.specs.entries.Words.{key_in}
-use Rattle.one_store.specs.Known.{Known, IsStore, known_seen, root_tree, stored_root}
+use Rattle.one_store.specs.Known.{Known, IsStore, known_state, root_tree, stored_root}
 use Rattle.one_store.specs.Steps.{SparesRoots, spares_on}
 use Rattle.one_store.proofs.RootLaws.{top_tree}
 use Rattle.one_store.proofs.StoreLaws.{held_is}
 use Rattle.store_run.specs.declared.stored_versions.Versions.{Versions}
 use Rattle.store_run.specs.Kept.{plan_of, log_of, moment_of, stored_of, world_of, tints_of, AreStoredVersions, AreVersions, IsLargeStore, HoldsTree, GainsTree, HoldsSame}
-use Rattle.store_run.specs.Steps.{TellsHeldVersion, StayVersions, StaysSeen, IsOverStore, LeavesAll, SharesRootOfVersion, PutsDown, MakesBeside, MakesRoot, MeetsBucket, edited_world, side_of, WantsFor}
+use Rattle.store_run.specs.Steps.{AnswersHeldVersion, StayVersions, StaysSeen, IsOverStore, LeavesAll, SharesRootOfVersion, PutsDown, MakesBeside, MakesRoot, MeetsBucket, edited_world, side_of, WantsFor}
 use Rattle.store_run.proofs.Holding.{gained_tree, gained_few, holds_root, holds_shows}
 use Rattle.store_run.proofs.KeptWorlds.{plain_acts, plain_log, stored_plainly, keeps_tints, small_tints, set_tints}
 use Rattle.store_run.proofs.Sparing.{with_store, tree_same}
 
 -- the newest version has no mark
 pub newest_kept : (side : ℕ) (models : List Content) (log : Log) → IsLegal side models log
-    → IsKept log (length log.records)
+    → HoldsVersion log (length log.records)
 newest_kept side models log legal = record {
   there = omega arith;
   unmarked = λ k m lt same. (let dated = legal.marked k m lt in omega arith);
@@ -85,7 +85,7 @@ share_level v version root n are is e =
     are.sound.level version n (sym is ∙ e) ∙ ap top (sym are.side)
 
 pub share_shows : (v : Versions) (version : ℕ) (root : Option Name) → AreStoredVersions v
-    → IsKept (log_of v) version
+    → HoldsVersion (log_of v) version
     → HoldsTree v.store root → root ≡ stored_root v.store.roots version
     → ShowsWorld v.store.told.held (v.side - 2) root (stored_of v version)
 share_shows v version root are kept holds is =
@@ -100,7 +100,7 @@ share_shows v version root are kept holds is =
 
 -- which are those of the world where no cell has a tint
 pub shows_plainly : (v : Versions) (version : ℕ) (root : Option Name) → AreVersions v
-    → IsKept (log_of v) version
+    → HoldsVersion (log_of v) version
     → HoldsTree v.store root → root ≡ stored_root v.store.roots version
     → ShowsWorld v.store.told.held (v.side - 2) root (world_of v version)
 shows_plainly v version root are kept holds is =
@@ -115,9 +115,9 @@ base_root v version base are holds is =
     holds_root v.store v.side base holds (λ n e. share_level v version base n are is e)
 
 pub newest_is_kept : (v : Versions) (version : ℕ) → AreStoredVersions v → version ≡ moment_of v
-    → IsKept (log_of v) version
+    → HoldsVersion (log_of v) version
 newest_is_kept v version are is =
-    subst (λ (n : ℕ). IsKept (log_of v) n) (sym is)
+    subst (λ (n : ℕ). HoldsVersion (log_of v) n) (sym is)
     (newest_kept (2 ^ (plan_of v).side) v.models.models (log_of v) are.sound.legal)
 
 pub over_store : (v : Versions) (s : Known) → SparesRoots v.store s → IsOverStore v (with_store v s)
@@ -136,41 +136,41 @@ module _ (v : Versions) (s : Known) (base : Option Name) (act : Act) (version : 
   shown : ShowsWorld v.store.told.held (v.side - 2) base before
   shown = share_shows v (moment_of v) base are (newest_is_kept v (moment_of v) are refl) holds is
 
-  pub makes_beside : MakesAct (known_seen v.store) v.side base v.models.models act result
-      (known_seen s)
+  pub makes_beside : MakesAct (known_state v.store) v.side base v.models.models act result
+      (known_state s)
       → IfOk result (λ root. MakesBeside v act root (with_store v s))
   makes_beside = go result
     where
       go : (r : Result (Option Name) Full)
-          → MakesAct (known_seen v.store) v.side base v.models.models act r (known_seen s)
+          → MakesAct (known_state v.store) v.side base v.models.models act r (known_state s)
           → IfOk r (λ root. MakesBeside v act root (with_store v s))
       go (Err e) makes = tt
       go (Ok root) makes =
           let made = makes before shown in record { rebuilt = made.came; grows = made.grows }
 
-  pub fails_beside : MakesAct (known_seen v.store) v.side base v.models.models act result
-      (known_seen s)
+  pub fails_beside : MakesAct (known_state v.store) v.side base v.models.models act result
+      (known_state s)
       → IfErr result
-      (λ full. FailsBy (WantsFor v act) full.level full.bucket (known_seen v.store)
-      (known_seen s))
+      (λ full. FailsBy (WantsFor v act) full.level full.bucket (known_state v.store)
+      (known_state s))
   fails_beside = go result
     where
       go : (r : Result (Option Name) Full)
-          → MakesAct (known_seen v.store) v.side base v.models.models act r (known_seen s)
+          → MakesAct (known_state v.store) v.side base v.models.models act r (known_state s)
           → IfErr r
-          (λ full. FailsBy (WantsFor v act) full.level full.bucket (known_seen v.store)
-          (known_seen s))
+          (λ full. FailsBy (WantsFor v act) full.level full.bucket (known_state v.store)
+          (known_state s))
       go (Ok root) makes = tt
       go (Err full) makes = makes before shown
 
   more : (r : Result (Option Name) Full)
-      → MakesAct (known_seen v.store) v.side base v.models.models act r (known_seen s)
+      → MakesAct (known_state v.store) v.side base v.models.models act r (known_state s)
       → (f : Tree → ℕ) → weigh f v.store.told.held ≤ weigh f s.told.held
   more (Ok root) makes f = let made = makes before shown in omega (arith, made.came.weighs f)
   more (Err full) makes f = let fails = makes before shown in omega (arith, fails.held f)
 
-  pub still_held : MakesAct (known_seen v.store) v.side base v.models.models act result
-      (known_seen s)
+  pub still_held : MakesAct (known_state v.store) v.side base v.models.models act result
+      (known_state s)
       → SparesRoots v.store s → HoldsTree s base
   still_held makes spares = record {
     each = λ n e. record {
@@ -184,13 +184,13 @@ module _ (v : Versions) (s : Known) (base : Option Name) (act : Act) (version : 
     };
   }
 
-  pub few_held : MakesAct (known_seen v.store) v.side base v.models.models act result
-      (known_seen s)
+  pub few_held : MakesAct (known_state v.store) v.side base v.models.models act result
+      (known_state s)
       → number_of_trees v.store.told.held ≤ 2049 → number_of_trees s.told.held ≤ 2050
   few_held = go result
     where
       go : (r : Result (Option Name) Full)
-          → MakesAct (known_seen v.store) v.side base v.models.models act r (known_seen s)
+          → MakesAct (known_state v.store) v.side base v.models.models act r (known_state s)
           → number_of_trees v.store.told.held ≤ 2049 → number_of_trees s.told.held ≤ 2050
       go (Ok root) makes few =
           let came = (makes before shown).came in
@@ -208,8 +208,8 @@ module _ (v u w : Versions) (base root : Option Name) (act : Act) (number : ℕ)
   -- of what came since the base was shared, only the new root's share is left
   left_over : (f : Tree → ℕ)
       →
-      (r : Rebuilt (v.side - 2) (edited_world v act) root (known_seen v.store)
-      (known_seen u.store))
+      (r : Rebuilt (v.side - 2) (edited_world v act) root (known_state v.store)
+      (known_state u.store))
       → weigh f w.store.told.held ≡ weight_of f r.tree + weigh f before.told.held
   left_over f r =
       let tree = ap (weight_of f) (tree_same v.store u.store (moment_of v) base over.spares is) in
@@ -227,7 +227,7 @@ module _ (v u w : Versions) (base root : Option Name) (act : Act) (number : ℕ)
             (over.records i).items;
         marks = Rattle.core_laws.specs.contents.MarkLists.marks_below
             (Rattle.store_run.specs.Kept.mark_in
-            ((over.marks i).items)) Rattle.one_store.specs.Spots.versions;
+            ((over.marks i).items)) Rattle.one_store.specs.WordIds.versions;
       }
 
   pub all_stay : StayVersions v w
@@ -239,15 +239,15 @@ module _ (v u w : Versions) (base root : Option Name) (act : Act) (number : ℕ)
 
   new_level : (n : Name)
       →
-      (r : Rebuilt (v.side - 2) (edited_world v act) root (known_seen v.store)
-      (known_seen u.store))
+      (r : Rebuilt (v.side - 2) (edited_world v act) root (known_state v.store)
+      (known_state u.store))
       → root ≡ Some n → n.level ≡ top (plan_of v).side
   new_level n r e = level_of (v.side - 2) r.tree n r.levels (r.root ∙ e) ∙ ap top are.side
 
   new_tree : (o : Option Name)
       →
-      (r : Rebuilt (v.side - 2) (edited_world v act) root (known_seen v.store)
-      (known_seen u.store))
+      (r : Rebuilt (v.side - 2) (edited_world v act) root (known_state v.store)
+      (known_state u.store))
       → root ≡ o → r.tree ≡ root_tree w.store root
   new_tree None r e =
       gone_from_root r.tree (r.root ∙ e)
@@ -344,7 +344,7 @@ module _ (a v u w : Versions) (base : Option Name) (act : Act) (number version :
       go (Ok root) makes = root_gained v u w base root act number a.store are st shares.gains base_place over puts makes
 
   nothing_left : (full : Full)
-      → FailsBy (WantsFor v act) full.level full.bucket (known_seen v.store) (known_seen u.store)
+      → FailsBy (WantsFor v act) full.level full.bucket (known_state v.store) (known_state u.store)
       → (f : Tree → ℕ) → weigh f w.store.told.held ≡ weigh f a.store.told.held
   nothing_left full fails f =
       let tree =
@@ -353,15 +353,15 @@ module _ (a v u w : Versions) (base : Option Name) (act : Act) (number version :
 
   pub met_all : IsStore w.store number
       → IfErr result
-      (λ full. FailsBy (WantsFor v act) full.level full.bucket (known_seen v.store)
-      (known_seen u.store))
+      (λ full. FailsBy (WantsFor v act) full.level full.bucket (known_state v.store)
+      (known_state u.store))
       → IfErr result (λ full. MeetsBucket a act full w)
   met_all st = go result
     where
       go : (r : Result (Option Name) Full)
           → IfErr r
-          (λ full. FailsBy (WantsFor v act) full.level full.bucket (known_seen v.store)
-          (known_seen u.store))
+          (λ full. FailsBy (WantsFor v act) full.level full.bucket (known_state v.store)
+          (known_state u.store))
           → IfErr r (λ full. MeetsBucket a act full w)
       go (Ok root) fails = tt
       go (Err full) fails =
@@ -425,7 +425,7 @@ enough_large v act are suits =
     large_for false Redo side large suits = tt
 
 pub enough_room : (v : Versions) (act : Act) → number_of_trees v.store.told.held ≤ 2049
-    → number_of_trees (known_seen v.store).held ≤ room_for act
+    → number_of_trees (known_state v.store).held ≤ room_for act
 enough_room v act few = least_room act (number_of_trees v.store.told.held) (omega (arith, few))
 
 -- where no cell has a tint, an act without one suits
@@ -442,12 +442,12 @@ plain_as a v log stored are =
 
 -- of versions without tints, and of versions with them
 pub root_told : (v : Versions) (version : ℕ) (base : Option Name) (question : Question)
-    (answer : Answer) → AreStoredVersions v → IsKept (log_of v) version
+    (answer : Answer) → AreStoredVersions v → HoldsVersion (log_of v) version
     → HoldsTree v.store base → base ≡ stored_root v.store.roots version → v.models.tint ≡ false
-    → TellsRoot v.store.told.held v.side base question answer
-    → TellsHeldVersion v version question answer
+    → AnswersByRoot v.store.told.held v.side base question answer
+    → AnswersHeldVersion v version question answer
 root_told v version base question answer are kept holds is plain tells =
-    subst (λ (b : Bool). Tells (kept_side b (2 ^ v.side)) (world_of v version)
+    subst (λ (b : Bool). AnswersTo (side_of_world b (2 ^ v.side)) (world_of v version)
     (tints_of v version) question answer)
     (sym plain)
     (tells (world_of v version) (tints_of v version)
@@ -458,12 +458,12 @@ root_told v version base question answer are kept holds is plain tells =
     (plain_acts v are plain) version c))
 
 pub tints_told : (v : Versions) (version : ℕ) (base : Option Name) (question : Question)
-    (answer : Answer) → AreStoredVersions v → IsKept (log_of v) version
+    (answer : Answer) → AreStoredVersions v → HoldsVersion (log_of v) version
     → HoldsTree v.store base → base ≡ stored_root v.store.roots version → v.models.tint ≡ true
-    → TellsTinted v.store.told.held v.side base question answer
-    → TellsHeldVersion v version question answer
+    → AnswersByTints v.store.told.held v.side base question answer
+    → AnswersHeldVersion v version question answer
 tints_told v version base question answer are kept holds is tinted tells =
-    subst (λ (b : Bool). Tells (kept_side b (2 ^ v.side)) (world_of v version)
+    subst (λ (b : Bool). AnswersTo (side_of_world b (2 ^ v.side)) (world_of v version)
     (tints_of v version) question answer)
     (sym tinted)
     (tells (stored_of v version) (world_of v version) (tints_of v version)
@@ -480,27 +480,27 @@ pub question_plain : (v : Versions) (question : Question) → v.models.tint ≡ 
     → QuestionFits (side_of v) question
     → QuestionFits (2 ^ v.side) question
 question_plain v question plain fits =
-    subst (λ (b : Bool). QuestionFits (kept_side b (2 ^ v.side)) question) plain fits
+    subst (λ (b : Bool). QuestionFits (side_of_world b (2 ^ v.side)) question) plain fits
 
 pub question_tinted : (v : Versions) (question : Question) → v.models.tint ≡ true
     → QuestionFits (side_of v) question
     → QuestionFits (2 ^ v.side / 4) question
 question_tinted v question tinted fits =
-    subst (λ (b : Bool). QuestionFits (kept_side b (2 ^ v.side)) question) tinted fits
+    subst (λ (b : Bool). QuestionFits (side_of_world b (2 ^ v.side)) question) tinted fits
 
 pub question_here : (v : Versions) (question : Question) → AreVersions v
     → QuestionFits (2 ^ v.side) question
     → QuestionFits (side_of v) question
 question_here v question are fits =
-    subst (λ (b : Bool). QuestionFits (kept_side b (2 ^ v.side)) question) (sym are.plain) fits
+    subst (λ (b : Bool). QuestionFits (side_of_world b (2 ^ v.side)) question) (sym are.plain) fits
 
 pub seen_tree : (v : Versions) (s : Known) (version : ℕ) (base : Option Name)
     → HoldsTree v.store base → base ≡ stored_root v.store.roots version
-    → SparesRoots v.store s → known_seen s ≡ known_seen v.store → HoldsTree s base
+    → SparesRoots v.store s → known_state s ≡ known_state v.store → HoldsTree s base
 seen_tree v s version base holds is spares seen = record {
   each = λ n e. record {
     weighs = λ f. (
-        let held = ap (λ (k : Seen). weigh f k.held) seen in
+        let held = ap (λ (k : StoreState). weigh f k.held) seen in
         let tree : f (root_tree s (Some n)) ≡ f (root_tree v.store (Some n)) =
         ap f (sym (ap (root_tree s) e) ∙ tree_same v.store s version base spares is
         ∙ ap (root_tree v.store) e) in
@@ -509,7 +509,7 @@ seen_tree v s version base holds is spares seen = record {
 }
 
 pub stays_seen : (v : Versions) (s : Known) → SparesRoots v.store s
-    → known_seen s ≡ known_seen v.store → StaysSeen v (with_store v s)
+    → known_state s ≡ known_state v.store → StaysSeen v (with_store v s)
 stays_seen v s spares seen =
     record { stay = record { models = refl; log = refl; spares = spares }; seen = seen }
 
@@ -533,7 +533,7 @@ pub asked_same : (a v u w : Versions) (version : ℕ) (base : Option Name)
     → HoldsSame a.store w.store
 asked_same a v u w version base shares seen puts = record {
   weighs = λ f. (
-      let held = ap (λ (k : Seen). weigh f k.held) seen.seen in
+      let held = ap (λ (k : StoreState). weigh f k.held) seen.seen in
       let tree =
       ap (weight_of f) (tree_same v.store u.store version base seen.stay.spares shares.is) in
       omega (arith, shares.gains.weighs f, puts.loses.weighs f, held, tree));
@@ -544,7 +544,7 @@ pub asked_all : (a v u w : Versions) (version : ℕ) (base : Option Name)
 asked_all a v u w version base shares seen leaves = record {
   stay = stays_on a u w (stays_on a v u shares.stay seen.stay) leaves.stay;
   only = record {
-    made = leaves.only.made ∙ ap (λ (k : Seen). k.made) seen.seen ∙ shares.only.made;
-    met = leaves.only.met ∙ ap (λ (k : Seen). k.met) seen.seen ∙ shares.only.met;
+    made = leaves.only.made ∙ ap (λ (k : StoreState). k.made) seen.seen ∙ shares.only.made;
+    met = leaves.only.met ∙ ap (λ (k : StoreState). k.met) seen.seen ∙ shares.only.met;
   };
 }

@@ -13,7 +13,7 @@ use Rattle.core_laws.specs.Counting.{booked, parented, rooted}
 use Rattle.core_laws.specs.States.{State}
 use Rattle.core_laws.specs.Soundness.{SoundEntries, SoundVersions, Sound}
 use Rattle.core_laws.specs.States.{IsLive}
-use Rattle.one_store.specs.Known.{Known, IsStore, known_seen, root_tree, stored_root}
+use Rattle.one_store.specs.Known.{Known, IsStore, known_state, root_tree, stored_root}
 use Rattle.one_store.specs.Steps.{SparesRoots, GainsRoot, spares_itself}
 use Rattle.store_run.specs.declared.stored_versions.Versions.{Versions}
 use Rattle.store_run.specs.Kept.{plan_of, log_of, core_with, AreStoredVersions, AreVersions, IsLargeStore, HoldsTree, HasRecordRoom}
@@ -128,7 +128,7 @@ gave_nothing v = record {
 -- a share goes back, where there is one
 pub puts_some : (v : Versions) (s : Known) (n : Name) → HoldsTree v.store (Some n)
     → ForHeld v.store.told.held n (λ t. Gains s.told.held t v.store.told.held)
-    → OnlyHeldChanges (known_seen v.store) (known_seen s) → SparesRoots v.store s
+    → OnlyHeldChanges (known_state v.store) (known_state s) → SparesRoots v.store s
     → PutsDown v (Some n) (with_store v s)
 puts_some v s n holds back only spares = record {
   leaves = record {

@@ -12,14 +12,14 @@ use Rattle.node_words.specs.shapes.Tree.{Tree, shape_of}
 use Rattle.node_words.specs.shapes.Weights.{weight_of, number_of_trees}
 use Rattle.node_words.proofs.OfShapes.WeightLaws.{weight_of-one}
 use Rattle.core_laws.specs.contents.Aligned.{top, world_block}
-use Rattle.core_laws.specs.contents.Versions.{IsKept}
+use Rattle.core_laws.specs.contents.Versions.{HoldsVersion}
 use Rattle.core_laws.specs.States.{tree_at}
 use Rattle.one_store.specs.entries.Words.{Written, key_in}
 use Rattle.one_store.specs.Known.{Known, stored_root, root_tree}
 use Rattle.one_store.specs.Steps.{GivesRoot}
 use Rattle.store_run.specs.declared.stored_versions.Versions.{Versions}
 use Rattle.store_run.specs.Kept.{plan_of, log_of, moment_of, mark_in, AreStoredVersions, HoldsNothing, HoldsTree}
-use Rattle.store_run.specs.Marked.{Rooted, HoldsKept}
+use Rattle.store_run.specs.Marked.{Rooted, HoldsVersions}
 use Rattle.store_run.specs.Taken.{rooted_weight, AreTakenRoots}
 use Rattle.store_run.proofs.Changing.{marked_gone}
 use Rattle.store_run.proofs.Finding.{kept_at, marked_at}
@@ -78,7 +78,7 @@ none_taken v free = record {
 
 module _ (v : Versions) (n : ℕ) (s : Known) (roots : List Rooted)
     (are : AreTakenRoots v n s roots) where
-  pub one_marked : (IsKept (log_of v) n → ⊥) → AreTakenRoots v (n + 1) s roots
+  pub one_marked : (HoldsVersion (log_of v) n → ⊥) → AreTakenRoots v (n + 1) s roots
   one_marked gone = record {
     words = are.words;
     places = λ p le. are.places p (omega (arith, le));
@@ -91,12 +91,12 @@ module _ (v : Versions) (n : ℕ) (s : Known) (roots : List Rooted)
     all = λ p lt kept. go p lt kept (cases_eq p n);
   }
     where
-      go : (p : ℕ) → p < n + 1 → IsKept (log_of v) p → (p ≡ n) ⊎ (p ≡ n → ⊥)
+      go : (p : ℕ) → p < n + 1 → HoldsVersion (log_of v) p → (p ≡ n) ⊎ (p ≡ n → ⊥)
           → Contains roots (p, stored_root v.store.roots p)
-      go p lt kept (inl same) = absurd (gone (subst (λ (q : ℕ). IsKept (log_of v) q) same kept))
+      go p lt kept (inl same) = absurd (gone (subst (λ (q : ℕ). HoldsVersion (log_of v) q) same kept))
       go p lt kept (inr other) = are.all p (omega (arith, lt, other)) kept
 
-  module _ (t : Known) (root : Option Name) (kept : IsKept (log_of v) n)
+  module _ (t : Known) (root : Option Name) (kept : HoldsVersion (log_of v) n)
       (is : root ≡ stored_root s.roots n) (gives : GivesRoot s n t) where
     of_old : root ≡ stored_root v.store.roots n
     of_old = is ∙ are.places n (omega arith)
@@ -116,7 +116,7 @@ module _ (v : Versions) (n : ℕ) (s : Known) (roots : List Rooted)
     here : Contains more (n, stored_root v.store.roots n)
     here = subst (λ (r : Option Name). Contains more (n, r)) of_old (Contains-push roots (n, root))
 
-    all_more : (p : ℕ) → p < n + 1 → IsKept (log_of v) p → (p ≡ n) ⊎ (p ≡ n → ⊥)
+    all_more : (p : ℕ) → p < n + 1 → HoldsVersion (log_of v) p → (p ≡ n) ⊎ (p ≡ n → ⊥)
         → Contains more (p, stored_root v.store.roots p)
     all_more p lt kept_p (inl same) =
         subst (λ (q : ℕ). Contains more (q, stored_root v.store.roots q)) (sym same) here
@@ -150,7 +150,7 @@ module _ (v : Versions) (n : ℕ) (s : Known) (roots : List Rooted)
           (λ k d lt. are.below (get_or roots k d) (Contains-get_or roots k d lt));
       below = each (λ x. x.0 < n + 1) (λ x has. (let lt = are.below x has in omega (arith, lt)))
           (omega arith);
-      listed = each (λ x. IsKept (log_of v) x.0) are.listed kept;
+      listed = each (λ x. HoldsVersion (log_of v) x.0) are.listed kept;
       roots_are = each (λ x. x.1 ≡ stored_root v.store.roots x.0) are.roots_are of_old;
       all = λ p lt kept_p. all_more p lt kept_p (cases_eq p n);
     }
@@ -186,7 +186,7 @@ module _ (v : Versions) (s : Known) (roots : List Rooted) (of_v : AreStoredVersi
       ∙ sym (tree_of_words v.store s x.1 are.words))
       (of_v.sound.shown x.0 (are.listed x has)))
 
-  pub all_taken : HoldsKept (plan_of v).side v.models.models (log_of v) s.told.held roots
+  pub all_taken : HoldsVersions (plan_of v).side v.models.models (log_of v) s.told.held roots
   all_taken = record {
     versions = record {
       rising = are.rising;

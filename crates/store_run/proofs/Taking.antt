@@ -7,7 +7,7 @@ use Rattle.history_model.specs.declared.histories.Mark.{Mark}
 use Rattle.history_model.specs.Logs.{Log}
 use Rattle.history_model.specs.Worlds.{is_edit}
 use Rattle.node_words.specs.declared.shapes.names.Name.{Name}
-use Rattle.core_laws.specs.contents.Versions.{IsKept, IsUnmarked}
+use Rattle.core_laws.specs.contents.Versions.{HoldsVersion, IsUnmarked}
 use Rattle.conformance.specs.Answers.{target_at}
 use Rattle.conformance.proofs.OfScripts.Going.{goes_to}
 use Rattle.store_run.specs.declared.stored_versions.Versions.{Versions}
@@ -19,14 +19,14 @@ use Rattle.node_words.specs.shapes.Shape.{Shape}
 use Rattle.node_words.specs.Gathering.{Grew}
 use Rattle.history_model.specs.declared.acts.Act.{Act}
 use Rattle.history_model.specs.declared.acts.Act.TheVariants.{Fill, Erase, Ball, Carve, Copy, Stamp, Tint, Undo, Redo}
-use Rattle.history_model.specs.Logs.{HasTarget, MayFollow, kept_side}
+use Rattle.history_model.specs.Logs.{HasTarget, MayFollow, side_of_world}
 use Rattle.history_model.specs.Positions.{position_after, first_of}
 use Rattle.history_model.specs.Tints.{SameTints}
 use Rattle.core_laws.proofs.RootCells.{same_cells, same_root}
 use Rattle.conformance.proofs.LineKinds.{undo_target, redo_target}
 use Rattle.one_store.specs.Known.{IsStore, stored_root}
 use Rattle.store_run.specs.Kept.{tints_of}
-use Rattle.store_run.specs.Replaying.{TakesEdit, TakesWay, CanFollow, Replays, IsReplay}
+use Rattle.store_run.specs.Replaying.{TakesEdit, TakesUndo, CanFollow, Replays, IsReplay}
 use Rattle.store_run.proofs.KeptWorlds.{tints_by_cells, cells_by_tints}
 use Rattle.store_run.proofs.Sparing.{versions_sound}
 
@@ -46,7 +46,7 @@ edit_taken v u w r root makes appends = record {
 
 pub way_taken : (v u w : Versions) (r : Record) (to : ℕ) (root : Option Name)
     → SharesRootOfVersion v to root u
-    → GainsRecord u r w → TakesWay v r w
+    → GainsRecord u r w → TakesUndo v r w
 way_taken v u w r to root shares appends = record {
   takes = record {
     plan = appends.only.plan ∙ shares.stay.spares.plan;
@@ -62,7 +62,7 @@ way_taken v u w r to root shares appends = record {
 }
 
 pub unmarked_kept : (v : Versions) (version : ℕ) → (log_of v).marks ≡ [] → version ≤ moment_of v
-    → IsKept (log_of v) version
+    → HoldsVersion (log_of v) version
 unmarked_kept v version none there = record {
   there = there;
   unmarked = subst (λ (ms : List Mark). IsUnmarked ms version) (sym none) (All-nil _);
@@ -71,7 +71,7 @@ unmarked_kept v version none there = record {
 -- where an undo or a redo goes to is kept
 pub target_kept : (v : Versions) (r : Record) (to : ℕ) → (log_of v).marks ≡ []
     → is_edit r.act ≡ false → Some to ≡ target_at v.records.items (moment_of v) r.act
-    → IsKept (log_of v) to
+    → HoldsVersion (log_of v) to
 target_kept v r to none other goes =
     unmarked_kept v to none (goes_to (log_of v) r.act to other (sym goes)).there
 
@@ -108,7 +108,7 @@ no_target records n (Tint t) other is may = absurd (let no : ⊥ = cc in no)
 -- what comes of an undo or a redo
 pub way_replays : (old : List Record) (u w : Versions) (r : Record) (taken : Bool)
     → u.records.items ≡ old → is_edit r.act ≡ false
-    → (taken ≡ true → TakesWay u r w) → (taken ≡ true → CanFollow u.records.items r)
+    → (taken ≡ true → TakesUndo u r w) → (taken ≡ true → CanFollow u.records.items r)
     → (taken ≡ false → w ≡ u)
     → (taken ≡ false → target_at u.records.items (moment_of u) r.act ≡ None)
     → Replays old r (Ok taken) w.records.items
@@ -127,20 +127,20 @@ way_replays old u w r false same other takes follows stays lacks = (
 pub same_roots_same : (v : Versions) (number a b : ℕ) → IsReplay v → IsStore v.store number
     → a ≤ moment_of v → b ≤ moment_of v → (is : Bool)
     → (IsTrue is ↔ (stored_root v.store.roots a ≡ stored_root v.store.roots b))
-    → IsTrue is ↔ SameTints (kept_side v.models.tint (2 ^ (plan_of v).side)) (tints_of v a)
+    → IsTrue is ↔ SameTints (side_of_world v.models.tint (2 ^ (plan_of v).side)) (tints_of v a)
     (tints_of v b)
 same_roots_same v number a b replay st low high is roots =
     let of_a = unmarked_kept v a replay.unmarked low in
     let of_b = unmarked_kept v b replay.unmarked high in
     let sound = versions_sound v number replay.are st in (
-      λ t. subst (λ (l : ℕ). SameTints (kept_side v.models.tint (2 ^ l)) (tints_of v a)
+      λ t. subst (λ (l : ℕ). SameTints (side_of_world v.models.tint (2 ^ l)) (tints_of v a)
           (tints_of v b)) replay.are.side
           (tints_by_cells v a b replay.are
           (same_cells (plan_of v) v.models.models _ st.plan.side_low sound a b of_a of_b
           (roots.0 t))),
       λ same. roots.1 (same_root (plan_of v) v.models.models _ st.plan.side_low sound a b of_a of_b
           (cells_by_tints v a b replay.are
-          (subst (λ (l : ℕ). SameTints (kept_side v.models.tint (2 ^ l)) (tints_of v a)
+          (subst (λ (l : ℕ). SameTints (side_of_world v.models.tint (2 ^ l)) (tints_of v a)
           (tints_of v b)) (sym replay.are.side) same))),
     )
 

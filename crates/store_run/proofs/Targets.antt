@@ -17,11 +17,11 @@ use Rattle.node_words.specs.shapes.Shape.{Shape, ShowsCells, IsCanonical}
 use Rattle.node_words.specs.shapes.Tree.{shape_of}
 use Rattle.node_words.specs.Gathering.{Grew}
 use Rattle.node_words.proofs.GatherLaws.{grew_into}
-use Rattle.node_words.specs.Held.{Seen}
+use Rattle.node_words.specs.Held.{StoreState}
 use Rattle.node_words.specs.Plans.{Layout}
 use Rattle.node_words.proofs.OfContents.CellShapeLaws.{shape_with-has, shape_with-canonical}
 use Rattle.core_laws.specs.contents.Aligned.{top, world_block}
-use Rattle.core_laws.specs.contents.Versions.{IsKept, IsUnmarked}
+use Rattle.core_laws.specs.contents.Versions.{HoldsVersion, IsUnmarked}
 use Rattle.core_laws.specs.LogEvents.{MayAppend}
 use Rattle.core_laws.proofs.Targets.{may_go}
 use Rattle.edit_walk.specs.cells.Worlds.{world_shape, world_cells, block_at_origin}
@@ -95,7 +95,7 @@ module _ (v : Versions) (act : Act) (are : AreStoredVersions v) (edit : is_edit 
       → Grew (Wants v act) old new
   grew_wanted old new grew = grew_into wanted_by grew
 
-  pub meets_full : (level bucket : ℕ) (old new : Seen)
+  pub meets_full : (level bucket : ℕ) (old new : StoreState)
       → FailsBy (WantsFor v act) level bucket old new
       → MeetsFull (Wants v act) level bucket old new
   meets_full level bucket old new fails = record {
@@ -147,7 +147,7 @@ may_edit v u r root are now makes edit fits late few =
 pub may_go_to : (v u : Versions) (r : Record) (to number : ℕ) (root : Option Name)
     → AreStoredVersions u → IsStore u.store number → SharesRootOfVersion v to root u
     → is_edit r.act ≡ false → target_at v.records.items (moment_of v) r.act ≡ Some to
-    → IsKept (log_of v) to → moment_of v ≢ 65535 → moment_of v ≤ 65535
+    → HoldsVersion (log_of v) to → moment_of v ≢ 65535 → moment_of v ≤ 65535
     → MayAppend (plan_of u) u.models.models r root (core_with (log_of u) u.store)
 may_go_to v u r to number root are st shares other goes kept late few =
     let log = shares.stay.log in

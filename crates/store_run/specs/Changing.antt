@@ -8,7 +8,7 @@ use Rattle.history_model.specs.declared.histories.Mark.{Mark}
 use Rattle.history_model.specs.Logs.{Log}
 use Rattle.history_model.specs.Worlds.{is_edit, edited}
 use Rattle.history_model.specs.Moments.{world_has}
-use Rattle.core_laws.specs.contents.Versions.{IsKept, MarkComes}
+use Rattle.core_laws.specs.contents.Versions.{HoldsVersion, InsertsMark}
 use Rattle.transcript.specs.declared.answers.Answer.{Answer}
 use Rattle.transcript.specs.declared.answers.Answer.TheVariants as answers
 use Rattle.conformance.specs.Answers.{target_at}
@@ -29,20 +29,20 @@ pub record GoesToVersion (log : Log) (act : Act) (to : ℕ) : Type 0 where
   pub goes : target_at log.records (length log.records) act ≡ Some to
 
 -- it is an edit, or there is a version for it to go to that isn't forgotten
-pub record HasKeptTarget (log : Log) (act : Act) : Type 0 where
-  pub other : is_edit act ≡ false → (to : ℕ) × GoesToVersion log act to × IsKept log to
+pub record HasHeldTarget (log : Log) (act : Act) : Type 0 where
+  pub other : is_edit act ≡ false → (to : ℕ) × GoesToVersion log act to × HoldsVersion log to
 
 -- an act is answered: the record comes behind the others, or the history stays. A history has
 -- 65,535 records at most
 pub data Changes (log : Log) (r : Record) : Answer → Log → Type 0 where
-  done : (new : Log) → length log.records < 65535 → HasKeptTarget log r.act
+  done : (new : Log) → length log.records < 65535 → HasHeldTarget log r.act
       → new ≡ log_with_record log r
       → Changes log r answers.Done new
   full : (new : Log) (level bucket : ℕ) → is_edit r.act ≡ true → new ≡ log
       → Changes log r (answers.Full level bucket) new
-  log_full : (new : Log) → length log.records ≡ 65535 → HasKeptTarget log r.act → new ≡ log
+  log_full : (new : Log) → length log.records ≡ 65535 → HasHeldTarget log r.act → new ≡ log
       → Changes log r answers.LogFull new
-  forgotten : (new : Log) (to : ℕ) → GoesToVersion log r.act to → ¬ IsKept log to → new ≡ log
+  forgotten : (new : Log) (to : ℕ) → GoesToVersion log r.act to → ¬ HoldsVersion log to → new ≡ log
       → Changes log r (answers.Forgotten to) new
   nothing : (new : Log) → is_edit r.act ≡ false
       → target_at log.records (length log.records) r.act ≡ None → new ≡ log
@@ -50,12 +50,12 @@ pub data Changes (log : Log) (r : Record) : Answer → Log → Type 0 where
 
 -- the mark comes to its version, and nothing else changes
 pub record LogGainsMark (log : Log) (mark : Mark) (new : Log) : Type 0 where
-  pub kept : IsKept log mark.version
+  pub kept : HoldsVersion log mark.version
   pub earlier : mark.version < length log.records
   pub side : new.side ≡ log.side
   pub coloured : new.coloured ≡ log.coloured
   pub records : new.records ≡ log.records
-  pub marks : MarkComes log.marks mark new.marks
+  pub marks : InsertsMark log.marks mark new.marks
 
 -- a version is to be forgotten by this mark, and is, or the history stays
 pub data AnswersForget (log : Log) (mark : Mark) : Answer → Log → Type 0 where
@@ -63,7 +63,7 @@ pub data AnswersForget (log : Log) (mark : Mark) : Answer → Log → Type 0 whe
       → AnswersForget log mark (answers.Forgot mark.version) new
   no_version : length log.records < mark.version
       → AnswersForget log mark (answers.NoVersion mark.version) log
-  forgotten : mark.version ≤ length log.records → ¬ IsKept log mark.version
+  forgotten : mark.version ≤ length log.records → ¬ HoldsVersion log mark.version
       → AnswersForget log mark (answers.Forgotten mark.version) log
   is_head : mark.version ≡ length log.records → AnswersForget log mark answers.IsHead log
 

@@ -13,7 +13,7 @@ use Rattle.node_words.specs.shapes.Tree.{Tree}
 use Rattle.node_words.specs.shapes.Weights.{weigh, weight_of}
 use Rattle.node_words.specs.Held.{IsHeld}
 use Rattle.node_words.specs.Plans.{Layout}
-use Rattle.one_store.specs.Spots.{versions}
+use Rattle.one_store.specs.WordIds.{versions}
 use Rattle.core_laws.specs.contents.MarkLists.{marks_below, AreOfVersions}
 use Rattle.core_laws.specs.States.{State}
 use Rattle.core_laws.specs.Soundness.{SoundVersions}

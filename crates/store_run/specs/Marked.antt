@@ -10,7 +10,7 @@ use Rattle.node_words.specs.declared.shapes.names.Name.{Name}
 use Rattle.node_words.specs.shapes.Tree.{Tree}
 use Rattle.edit_walk.specs.cells.Worlds.{ShowsWorld}
 use Rattle.node_words.specs.descent.Roots.{HoldsRoot}
-use Rattle.core_laws.specs.contents.Versions.{IsKept}
+use Rattle.core_laws.specs.contents.Versions.{HoldsVersion}
 use Rattle.store_run.specs.Replaying.{ReplayState}
 use Rattle.store_run.specs.Worlds.{WorldState}
 
@@ -36,10 +36,10 @@ abbrev pub Rooted : Type 0
 Rooted = ℕ × Option Name
 
 -- the versions of some roots are just those of the history that are kept, by rising number
-pub record AreOfKept (log : Log) (roots : List Rooted) : Type 0 where
+pub record AreOfHeld (log : Log) (roots : List Rooted) : Type 0 where
   pub rising : AllPairs (λ a b. a.0 < b.0) roots
-  pub listed : (x : Rooted) → Contains roots x → IsKept log x.0
-  pub all : (v : ℕ) → IsKept log v → (root : Option Name) × Contains roots (v, root)
+  pub listed : (x : Rooted) → Contains roots x → HoldsVersion log x.0
+  pub all : (v : ℕ) → HoldsVersion log v → (root : Option Name) × Contains roots (v, root)
 
 -- the root is held, and shows the cells that the store keeps of its version
 pub record ShowsVersion (side : ℕ) (models : List Content) (log : Log) (held : List Tree)
@@ -48,7 +48,7 @@ pub record ShowsVersion (side : ℕ) (models : List Content) (log : Log) (held :
   pub shows : ShowsWorld held (side - 2) x.1 (store_has models log x.0)
 
 -- so it is with each of them
-pub record HoldsKept (side : ℕ) (models : List Content) (log : Log) (held : List Tree)
+pub record HoldsVersions (side : ℕ) (models : List Content) (log : Log) (held : List Tree)
     (roots : List Rooted) : Type 0 where
-  pub versions : AreOfKept log roots
+  pub versions : AreOfHeld log roots
   pub each : (x : Rooted) → Contains roots x → ShowsVersion side models log held x

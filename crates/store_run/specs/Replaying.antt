@@ -92,7 +92,7 @@ pub record TakesEdit (old : Versions) (r : Record) (new : Versions) : Type 0 whe
   pub made : Grew (WantsFor old r.act) old.store.told.made new.store.told.made
 
 -- an undo or a redo did, for which nothing is made
-pub record TakesWay (old : Versions) (r : Record) (new : Versions) : Type 0 where
+pub record TakesUndo (old : Versions) (r : Record) (new : Versions) : Type 0 where
   pub takes : TakesRecord old r new
   pub only : MakesNothing old.store.told new.store.told
 

@@ -1,11 +1,13 @@
 -- What the calls of versions over a store do.
 use Rattle.std.specs.Prelude.{◌≡◌, ℕ, ◌-◌, ◌^◌, ◌<◌, ◌≤◌, Option, Some}
 use Rattle.std.specs.List.{Contains}
+use Rattle.vw_cell.specs.declared.boxes.Boxed.{Boxed}
+use Rattle.vw_cell.specs.Extents.{IsExtent}
 use Rattle.history_model.specs.declared.acts.Act.{Act}
 use Rattle.history_model.specs.declared.histories.Mark.{Mark}
 use Rattle.history_model.specs.declared.histories.Record.{Record}
 use Rattle.history_model.specs.declared.questions.Question.{Question}
-use Rattle.history_model.specs.Logs.{kept_side}
+use Rattle.history_model.specs.Logs.{side_of_world}
 use Rattle.history_model.specs.Stores.{edited_in}
 use Rattle.history_model.specs.Worlds.{World}
 use Rattle.node_words.specs.declared.shapes.names.Name.{Name}
@@ -15,13 +17,14 @@ use Rattle.node_words.specs.declared.shares.Full.{Full}
 use Rattle.act_rebuilds.specs.Acts.{IsOfAct}
 use Rattle.act_rebuilds.specs.Made.{GrowsBy as MadeBy, FailsBy}
 use Rattle.core_laws.specs.contents.Aligned.{top, world_block}
-use Rattle.core_laws.specs.contents.Versions.{IsKept}
+use Rattle.core_laws.specs.contents.Versions.{HoldsVersion}
+use Rattle.measure.specs.Changes.{differs}
 use Rattle.edit_walk.specs.cells.Worlds.{Rebuilt}
 use Rattle.one_store.specs.notes.Changes.{MakesNothing}
-use Rattle.one_store.specs.Known.{known_seen, root_tree, stored_root}
+use Rattle.one_store.specs.Known.{known_state, root_tree, stored_root}
 use Rattle.one_store.specs.Steps.{SparesRoots}
 use Rattle.conformance.specs.Running.{GrowsByRecord, ForgetsBy}
-use Rattle.conformance.specs.Telling.{Tells}
+use Rattle.conformance.specs.QuestionAnswers.{AnswersTo}
 use Rattle.transcript.specs.declared.answers.Answer.{Answer}
 use Rattle.store_run.specs.declared.stored_versions.Versions.{Versions}
 use Rattle.store_run.specs.declared.stored_versions.VersionFound.{VersionFound}
@@ -35,18 +38,18 @@ pub record IsVersionMarked (v : Versions) (version : ℕ) : Type 0 where
   pub same : mark.version ≡ version
 
 abbrev pub IsVersionFound : Versions → ℕ → VersionFound → Type 0
-IsVersionFound v version Kept = IsKept (log_of v) version
+IsVersionFound v version Kept = HoldsVersion (log_of v) version
 IsVersionFound v version NotThere = moment_of v < version
 IsVersionFound v version Marked = (version ≤ moment_of v) × IsVersionMarked v version
 
 -- the side of the world that the store keeps
 abbrev pub side_of : Versions → ℕ
-side_of v = kept_side v.models.tint (2 ^ v.side)
+side_of v = side_of_world v.models.tint (2 ^ v.side)
 
 -- the answer tells what the question asks of a version
-abbrev pub TellsHeldVersion : Versions → ℕ → Question → Answer → Type 0
-TellsHeldVersion v version question answer =
-    Tells (side_of v) (world_of v version) (tints_of v version) question answer
+abbrev pub AnswersHeldVersion : Versions → ℕ → Question → Answer → Type 0
+AnswersHeldVersion v version question answer =
+    AnswersTo (side_of v) (world_of v version) (tints_of v version) question answer
 
 -- models, records and marks stay, and so do the roots in their places
 pub record StayVersions (old new : Versions) : Type 0 where
@@ -66,7 +69,7 @@ pub record IsOverStore (old new : Versions) : Type 0 where
 -- nothing changed that contracts see of the store
 pub record StaysSeen (old new : Versions) : Type 0 where
   pub stay : StayVersions old new
-  pub seen : known_seen new.store ≡ known_seen old.store
+  pub seen : known_state new.store ≡ known_state old.store
 
 -- nothing was made or met
 pub record LeavesAll (old new : Versions) : Type 0 where
@@ -97,9 +100,9 @@ WantsFor v act = IsOfAct v.side v.models.models act (stored_of v (moment_of v))
 -- a share came, beside what was held, of the root of what the edit makes of the newest version
 pub record MakesBeside (old : Versions) (act : Act) (root : Option Name)
     (new : Versions) : Type 0 where
-  pub rebuilt : Rebuilt (old.side - 2) (edited_world old act) root (known_seen old.store)
-      (known_seen new.store)
-  pub grows : MadeBy (WantsFor old act) (known_seen old.store) (known_seen new.store)
+  pub rebuilt : Rebuilt (old.side - 2) (edited_world old act) root (known_state old.store)
+      (known_state new.store)
+  pub grows : MadeBy (WantsFor old act) (known_state old.store) (known_state new.store)
 
 -- the root is that of what the edit makes, and shapes that it wants may have been made
 pub record MakesRoot (old : Versions) (act : Act) (root : Option Name)
@@ -108,13 +111,13 @@ pub record MakesRoot (old : Versions) (act : Act) (root : Option Name)
   pub level : (n : Name) → root ≡ Some n → n.level ≡ top (plan_of old).side
   pub shows : ShowsCells (world_block (plan_of old).side) (shape_of (root_tree new.store root))
       (edited_world old act)
-  pub grows : MadeBy (WantsFor old act) (known_seen old.store) (known_seen new.store)
+  pub grows : MadeBy (WantsFor old act) (known_state old.store) (known_state new.store)
 
 -- a shape that the edit wants met this full bucket
 pub record MeetsBucket (old : Versions) (act : Act) (full : Full) (new : Versions) : Type 0 where
   pub stay : StayVersions old new
-  pub fails : FailsBy (WantsFor old act) full.level full.bucket (known_seen old.store)
-      (known_seen new.store)
+  pub fails : FailsBy (WantsFor old act) full.level full.bucket (known_state old.store)
+      (known_state new.store)
 
 -- models and plan stay, and nothing was made or met
 pub record OnlyLogs (old new : Versions) : Type 0 where
@@ -131,3 +134,7 @@ pub record GainsRecord (old : Versions) (r : Record) (new : Versions) : Type 0 w
 pub record GainsMark (old : Versions) (mark : Mark) (new : Versions) : Type 0 where
   pub only : OnlyLogs old new
   pub forgets : ForgetsBy (plan_of old) old.models.models mark (log_of old) (log_of new)
+
+-- the box is the least one of all cells in which two versions differ; none where none does
+abbrev pub DifferIn : Versions → ℕ → ℕ → Option Boxed → Type 0
+DifferIn v a b found = IsExtent (2 ^ v.side) (differs (world_of v a) (world_of v b)) found

@@ -3,7 +3,7 @@ use Rattle.std.specs.Prelude.{◌≡◌, ℕ, ◌+◌, ◌<◌, ◌≤◌, List,
 use Rattle.std.specs.List.{AllPairs, Contains}
 use Rattle.node_words.specs.shapes.Tree.{Tree}
 use Rattle.node_words.specs.shapes.Weights.{weigh, weight_of}
-use Rattle.core_laws.specs.contents.Versions.{IsKept}
+use Rattle.core_laws.specs.contents.Versions.{HoldsVersion}
 use Rattle.one_store.specs.Known.{Known, root_tree, stored_root}
 use Rattle.store_run.specs.Kept.{log_of}
 use Rattle.store_run.specs.declared.stored_versions.Versions.{Versions}
@@ -24,7 +24,7 @@ pub record AreTakenRoots (old : Versions) (n : ℕ) (new : Known) (roots : List 
   pub few : length roots ≤ n
   pub rising : AllPairs (λ a b. a.0 < b.0) roots
   pub below : (x : Rooted) → Contains roots x → x.0 < n
-  pub listed : (x : Rooted) → Contains roots x → IsKept (log_of old) x.0
+  pub listed : (x : Rooted) → Contains roots x → HoldsVersion (log_of old) x.0
   pub roots_are : (x : Rooted) → Contains roots x → x.1 ≡ stored_root old.store.roots x.0
-  pub all : (v : ℕ) → v < n → IsKept (log_of old) v
+  pub all : (v : ℕ) → v < n → HoldsVersion (log_of old) v
       → Contains roots (v, stored_root old.store.roots v)

@@ -1,9 +1,9 @@
 //! The roots of versions, each with a share that is held.
 ghost use Rattle.std.specs.Prelude.{◌≡◌, ◌+◌, ◌<◌, ◌≤◌, IfOk, vec_capacity, vec_len};
 ghost use Rattle.node_words.specs.shapes.Weights.{number_of_trees};
-ghost use Rattle.one_store.specs.Known.{known_seen};
+ghost use Rattle.one_store.specs.Known.{known_state};
 ghost use Rattle.store_run.specs.Kept.{log_of, moment_of, plan_of, mark_in, AreStoredVersions, HoldsNothing};
-ghost use Rattle.store_run.specs.Marked.{HoldsKept};
+ghost use Rattle.store_run.specs.Marked.{HoldsVersions};
 ghost use Rattle.store_run.specs.Taken.{AreTakenRoots};
 
 use crate::stored_versions::Versions;
@@ -26,8 +26,8 @@ impl Versions {
         requires are { AreStoredVersions self }
         requires free { HoldsNothing self.store }
         ensures side { IfOk result (λ h. h.store.words.plan ≡ plan_of self) }
-        ensures roots { IfOk result (λ h. HoldsKept (plan_of self).side self.models.models
-            (log_of self) (known_seen h.store).held h.roots.items) }
+        ensures roots { IfOk result (λ h. HoldsVersions (plan_of self).side self.models.models
+            (log_of self) (known_state h.store).held h.roots.items) }
     {
         let versions = self.records.len() + 1;
         let roots = Vec::with_capacity(alloc, versions)?;

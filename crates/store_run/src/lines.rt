@@ -6,7 +6,7 @@ ghost use Rattle.node_words.specs.shapes.Weights.{number_of_trees};
 ghost use Rattle.script.specs.declared.commands.Command.TheVariants.{Edit, Forget};
 ghost use Rattle.conformance.specs.Answers.{target_at, mark_of};
 ghost use Rattle.store_run.specs.Kept.{log_of, moment_of, AreStoredVersions, AreVersions, HoldsSame, HasRecordRoom};
-ghost use Rattle.store_run.specs.Answering.{GoesOnBy, nothing_to_go_to};
+ghost use Rattle.store_run.specs.Answering.{ExtendsBy, nothing_to_go_to};
 ghost use Rattle.store_run.specs.Changing.{Changes, AnswersForget};
 
 use crate::stored_versions::{RECORDS, VersionFound, Versions};
@@ -32,7 +32,7 @@ impl Versions {
         requires plain { suits_tints false act ≡ true }
         requires fits { FitsWorld (2 ^ self.old.side) self.old.models.models act }
         ensures are { AreVersions self.new }
-        ensures goes_on { (once : Bool) → GoesOnBy self.old session
+        ensures goes_on { (once : Bool) → ExtendsBy self.old session
             (record { line = line; command = Edit act once }) result self.new }
         ensures logs { Changes (log_of self.old)
             (record { session = session; line = line; act = act }) result (log_of self.new) }
@@ -64,7 +64,7 @@ impl Versions {
         requires room { HasRecordRoom self.old }
         requires other { is_edit act ≡ false }
         ensures are { AreVersions self.new }
-        ensures goes_on { (once : Bool) → GoesOnBy self.old session
+        ensures goes_on { (once : Bool) → ExtendsBy self.old session
             (record { line = line; command = Edit act once }) result self.new }
         ensures logs { Changes (log_of self.old)
             (record { session = session; line = line; act = act }) result (log_of self.new) }
@@ -112,7 +112,7 @@ impl Versions {
         requires are { AreVersions self.old }
         requires few { number_of_trees self.old.store.told.held ≤ 2048 }
         ensures are { AreVersions self.new }
-        ensures goes_on { GoesOnBy self.old session
+        ensures goes_on { ExtendsBy self.old session
             (record { line = line; command = Forget version }) result self.new }
         ensures logs { AnswersForget (log_of self.old)
             (mark_of version (moment_of self.old) session line) result (log_of self.new) }

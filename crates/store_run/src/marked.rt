@@ -2,15 +2,16 @@ ghost use Rattle.std.specs.Prelude.{◌≡◌, ◌+◌, ◌<◌, ◌≤◌, ◌^
 ghost use Rattle.vox_read.specs.Contents.{AreModels};
 ghost use Rattle.history_model.specs.Logs.{FitsWorld, MayFollow, suits_tints};
 ghost use Rattle.history_model.specs.Positions.{position_after};
-ghost use Rattle.core_laws.specs.contents.Versions.{IsKept};
-ghost use Rattle.one_store.specs.Known.{known_seen};
+ghost use Rattle.core_laws.specs.contents.Versions.{HoldsVersion};
+ghost use Rattle.one_store.specs.Known.{known_state};
 ghost use Rattle.store_run.specs.Changing.{LogGainsMark, log_with_record};
 ghost use Rattle.store_run.specs.Kept.{IsLargeStore};
-ghost use Rattle.store_run.specs.Marked.{HoldsKept, replayed};
+ghost use Rattle.store_run.specs.Marked.{HoldsVersions, replayed};
 ghost use Rattle.store_run.specs.Replaying.{MakesOnlyParts, RefusesRecord};
 
 use crate::held_roots::HeldRoots;
 use crate::lines::is_edit;
+use crate::open_worlds::OpenWorld;
 use crate::replaying::ReplayRefused;
 use crate::stored_versions::Versions;
 use history_model::{Mark, Record};
@@ -32,7 +33,7 @@ pub struct MarkedReplay<L: Ledger> {
 impl<L: Ledger> Model for MarkedReplay<L> {
     ghost use Rattle.std.specs.Coded.{codes};
     ghost use Rattle.node_words.specs.shapes.ShapeCode.{coded_shape};
-    ghost use Rattle.one_store.specs.notes.Told.{coded_wanted};
+    ghost use Rattle.one_store.specs.notes.StoreNotes.{coded_wanted};
     ghost use Rattle.store_run.specs.Worlds.{WorldState, world_state, AreStoredAtRest};
 
     ghost Value = { WorldState };
@@ -93,7 +94,7 @@ impl<L: Ledger> MarkedReplay<L> {
             return Err(ReplayRefused::Memory);
         }
         if !is_edit(next.act) {
-            self.versions.follow_way(next);
+            self.versions.follow_undo(next);
             return Ok(());
         }
         let steps = &mut self.steps;
@@ -107,7 +108,7 @@ impl<L: Ledger> MarkedReplay<L> {
     /// The version of the mark is given back, now.
     #[tactic(auto, using(crate::proofs::Followed::marks_come, crate::proofs::Followed::marked_parts, crate::proofs::Taking::free_few, crate::proofs::Taking::same_free))]
     pub fn forget(&mut self, mark: Mark)
-        requires kept { IsKept self.old.log mark.version }
+        requires kept { HoldsVersion self.old.log mark.version }
         requires earlier { mark.version < length self.old.log.records }
         requires now { mark.at ≡ length self.old.log.records }
         requires made { MakesOnlyParts (replayed self.old) }
@@ -128,11 +129,21 @@ impl<L: Ledger> MarkedReplay<L> {
         self.versions.moment()
     }
 
+    /// The world that stands open behind what was replayed.
+    #[tactic(auto, using(crate::proofs::Opening::rests_plain))]
+    pub fn into_world(self) -> OpenWorld
+        requires plain { self.log.coloured ≡ false }
+        ensures { result ≡ self }
+    {
+        let MarkedReplay { versions, .. } = self;
+        OpenWorld::of(versions)
+    }
+
     /// The root of each version that is kept, and the store that holds a share of it.
     pub fn into_roots(self, alloc: Global) -> Result<HeldRoots, Memory>
         ensures side { IfOk result (λ h. h.store.words.plan.side ≡ self.plan.side) }
-        ensures roots { IfOk result (λ h. HoldsKept self.plan.side self.models self.log
-            (known_seen h.store).held h.roots.items) }
+        ensures roots { IfOk result (λ h. HoldsVersions self.plan.side self.models self.log
+            (known_state h.store).held h.roots.items) }
     {
         let MarkedReplay { versions, .. } = self;
         versions.held_roots(alloc)

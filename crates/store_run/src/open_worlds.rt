@@ -1,37 +1,45 @@
 //! A world that stands open, and is changed and asked one call at a time.
 ghost use Rattle.std.specs.Prelude.{◌≡◌, ◌↔◌, ◌<◌, ◌≤◌, ◌^◌, Bool, [], Some, IfOk, IfSome, IsTrue, OnErr, length, option_copied, true, false};
 ghost use Rattle.std.specs.List.{slice_get};
-ghost use Rattle.vw_cell.specs.Places.{FitsAt};
+ghost use Rattle.vw_cell.specs.Places.{FitsAt, IsInBox};
+ghost use Rattle.vw_cell.specs.Extents.{IsExtent};
 ghost use Rattle.vox_read.specs.Contents.{AreModels};
 ghost use Rattle.history_model.specs.Journal.{journal_of};
 ghost use Rattle.history_model.specs.Logs.{FitsWorld, suits_tints};
 ghost use Rattle.history_model.specs.Moments.{world_has, world_tint};
-ghost use Rattle.core_laws.specs.contents.Versions.{IsKept, SameWorld};
+ghost use Rattle.measure.specs.Changes.{differs};
+ghost use Rattle.core_laws.specs.contents.Versions.{HoldsVersion, SameWorld};
 ghost use Rattle.extract.specs.Saved.{file_of_box};
+ghost use Rattle.extract.specs.Surface.{surface_of_box};
+ghost use Rattle.flood.specs.Regions.{FilesRegion};
 ghost use Rattle.script.specs.Fitting.{QuestionFits};
 ghost use Rattle.script.specs.declared.commands.Command.TheVariants.{Edit, Forget};
 ghost use Rattle.transcript.specs.declared.answers.Answer.TheVariants.{Done};
 ghost use Rattle.conformance.specs.Answers.{mark_of};
 ghost use Rattle.conformance.specs.Kinds.{answer_at};
-ghost use Rattle.conformance.specs.Telling.{Tells};
-ghost use Rattle.conformance.specs.scripts.Sessions.{GoesOnWith};
+ghost use Rattle.conformance.specs.QuestionAnswers.{AnswersTo};
+ghost use Rattle.conformance.specs.scripts.Sessions.{ExtendsWith};
 ghost use Rattle.one_store.specs.Known.{stored_root};
-ghost use Rattle.store_run.specs.Answering.{GoesOnBy};
+ghost use Rattle.store_run.specs.Answering.{ExtendsBy};
 ghost use Rattle.store_run.specs.Changing.{Changes, AnswersForget, MakesVersion};
 ghost use Rattle.store_run.specs.Kept.{log_of, moment_of, world_of, HasRecordRoom, AreVersions, HoldsTree};
-ghost use Rattle.store_run.specs.Steps.{LeavesAll, StaysSeen, TellsHeldVersion};
-ghost use Rattle.store_run.specs.Worlds.{AreVersionsAtRest, size_of};
+ghost use Rattle.store_run.specs.Steps.{LeavesAll, StaysSeen, AnswersHeldVersion};
+ghost use Rattle.store_run.specs.Worlds.{AreVersionsAtRest, size_of, world_state};
 
+use crate::compared::changes_over;
+use crate::floods::region_over;
 use crate::lines::is_edit;
+use crate::seen::surface_over;
 use crate::stored_versions::{VersionFound, Versions};
 use extract::box_file;
+use flood::RegionFile;
 use history_model::{Act, Question, journal_text};
 use node_words::{Plan, Share, Steps};
 use std::alloc::Global;
 use std::marker::{Brand, Model};
 use std::sync::ledger::{Blank, Ledger};
 use transcript::Answer;
-use vox_read::Models;
+use vox_read::{Models, Voxel};
 use vw_cell::{Boxed, Cell, Memory, Side};
 
 /// The most records for which room is taken at the start.
@@ -50,7 +58,7 @@ pub struct OpenWorld {
 impl Model for OpenWorld {
     ghost use Rattle.std.specs.Coded.{codes};
     ghost use Rattle.node_words.specs.shapes.ShapeCode.{coded_shape};
-    ghost use Rattle.one_store.specs.notes.Told.{coded_wanted};
+    ghost use Rattle.one_store.specs.notes.StoreNotes.{coded_wanted};
     ghost use Rattle.store_run.specs.Worlds.{WorldState, world_state, AreVersionsAtRest};
 
     ghost Value = { WorldState };
@@ -78,6 +86,14 @@ impl OpenWorld {
         Ok(OpenWorld { versions })
     }
 
+    // Versions, of which nothing is held.
+    pub(crate) fn of(versions: Versions) -> OpenWorld
+        requires { AreVersionsAtRest versions }
+        ensures { result ≡ world_state versions }
+    {
+        OpenWorld { versions }
+    }
+
     /// The world's side.
     pub fn side(&self) -> Side
         ensures { result ≡ self.now.plan.side }
@@ -101,8 +117,8 @@ impl OpenWorld {
 
     /// Whether the version is there, and isn't forgotten.
     #[tactic(auto, using(crate::proofs::Changing::marked_gone))]
-    pub fn is_kept(&self, version: u32) -> bool
-        ensures { IsTrue result ↔ IsKept self.now.log version }
+    pub fn holds_version(&self, version: u32) -> bool
+        ensures { IsTrue result ↔ HoldsVersion self.now.log version }
     {
         match self.versions.find(version) {
             VersionFound::Kept => true,
@@ -121,7 +137,7 @@ impl OpenWorld {
         ensures makes { IfOk result (λ answer. answer ≡ Done
             → MakesVersion self.old.models self.old.log act self.new.log) }
         ensures goes_on { IfOk result (λ answer. (once : Bool)
-            → GoesOnWith self.old.plan self.old.models session
+            → ExtendsWith self.old.plan self.old.models session
             (record { line = line; command = Edit act once }) self.old.log self.new.log
             self.old.noted self.new.noted
             (answer_at (record { line = line; command = Edit act once })
@@ -139,7 +155,7 @@ impl OpenWorld {
         ensures models { self.new.models ≡ self.old.models }
         ensures logs { AnswersForget self.old.log
             (mark_of version (length self.old.log.records) session line) result self.new.log }
-        ensures goes_on { GoesOnWith self.old.plan self.old.models session
+        ensures goes_on { ExtendsWith self.old.plan self.old.models session
             (record { line = line; command = Forget version }) self.old.log self.new.log
             self.old.noted self.new.noted
             (answer_at (record { line = line; command = Forget version })
@@ -151,9 +167,9 @@ impl OpenWorld {
     /// What the question asks of a version.
     #[tactic(auto, using(crate::proofs::Opening::asked_told))]
     pub fn ask(&mut self, version: u32, question: Question) -> Answer
-        requires kept { IsKept self.old.log version }
+        requires kept { HoldsVersion self.old.log version }
         requires fits { QuestionFits (2 ^ self.old.plan.side) question }
-        ensures tells { Tells (2 ^ self.old.plan.side)
+        ensures tells { AnswersTo (2 ^ self.old.plan.side)
             (world_has self.old.models self.old.log.records version)
             (world_tint self.old.models self.old.log.records version) question result }
         ensures same { self.new ≡ self.old }
@@ -164,8 +180,8 @@ impl OpenWorld {
     /// Whether two versions have the same cells.
     #[tactic(auto, using(crate::proofs::Opening::same_by_roots))]
     pub fn same(&self, v: u32, w: u32) -> bool
-        requires first { IsKept self.now.log v }
-        requires second { IsKept self.now.log w }
+        requires first { HoldsVersion self.now.log v }
+        requires second { HoldsVersion self.now.log w }
         ensures { IsTrue result ↔ SameWorld (2 ^ self.now.plan.side)
             (world_has self.now.models self.now.log.records v)
             (world_has self.now.models self.now.log.records w) }
@@ -176,7 +192,7 @@ impl OpenWorld {
 
     /// The VOX file of a box of a version.
     pub fn file(&mut self, alloc: Global, version: u32, part: Boxed) -> Result<Vec<u8>, Memory>
-        requires kept { IsKept self.old.log version }
+        requires kept { HoldsVersion self.old.log version }
         requires inside { FitsAt part.at part.size (2 ^ self.old.plan.side) }
         requires small { (part.size.x ≤ 256) × (part.size.y ≤ 256) × (part.size.z ≤ 256) }
         ensures file { IfOk result (λ file. file.items ≡ file_of_box part
@@ -184,6 +200,66 @@ impl OpenWorld {
         ensures same { self.new ≡ self.old }
     {
         file_over::<Brand>(&mut self.versions, alloc, version, part, Blank::new(1))
+    }
+
+    /// The least box of all cells in which two versions differ, and none exactly where none does.
+    #[tactic(auto, using(crate::proofs::Comparing::changes_told))]
+    pub fn changes(&mut self, v: u32, w: u32) -> Option<Boxed>
+        requires first { HoldsVersion self.old.log v }
+        requires second { HoldsVersion self.old.log w }
+        ensures extent { IsExtent (2 ^ self.old.plan.side)
+            (differs (world_has self.old.models self.old.log.records v)
+            (world_has self.old.models self.old.log.records w)) result }
+        ensures same { self.new ≡ self.old }
+    {
+        changes_over::<Brand>(&mut self.versions, v, w, Blank::new(1))
+    }
+
+    /// The set cells of a box of a version that have a bare side, told from the box's corner, by
+    /// rising z, then y, then x, each with its bare sides in the place of its colour.
+    #[tactic(auto, using(crate::proofs::Seeing::surface_told))]
+    pub fn surface(
+        &mut self,
+        alloc: Global,
+        version: u32,
+        part: Boxed,
+    ) -> Result<Vec<Voxel>, Memory>
+        requires kept { HoldsVersion self.old.log version }
+        requires inside { FitsAt part.at part.size (2 ^ self.old.plan.side) }
+        requires small { (part.size.x ≤ 256) × (part.size.y ≤ 256) × (part.size.z ≤ 256) }
+        ensures voxels { IfOk result
+            (λ voxels. voxels.items ≡ surface_of_box (2 ^ self.old.plan.side)
+            (world_has self.old.models self.old.log.records version) part) }
+        ensures same { self.new ≡ self.old }
+    {
+        surface_over::<Brand>(&mut self.versions, alloc, version, part, Blank::new(1))
+    }
+
+    /// The cells of a box of a version that ways through its clear cells join with one of its
+    /// cells: how many they are, and their VOX file.
+    pub fn flood(
+        &mut self,
+        alloc: Global,
+        version: u32,
+        part: Boxed,
+        from: Cell,
+    ) -> Result<RegionFile, Memory>
+        requires kept { HoldsVersion self.old.log version }
+        requires inside { FitsAt part.at part.size (2 ^ self.old.plan.side) }
+        requires small { (part.size.x ≤ 256) × (part.size.y ≤ 256) × (part.size.z ≤ 256) }
+        requires from { IsInBox part from }
+        ensures file { IfOk result (λ r. FilesRegion part from r.cells r.file.items
+            (world_has self.old.models self.old.log.records version)) }
+        ensures same { self.new ≡ self.old }
+    {
+        region_over::<Brand>(
+            &mut self.versions,
+            alloc,
+            version,
+            part,
+            from,
+            Blank::new(1),
+        )
     }
 
     /// The text of the history's journal.
@@ -213,7 +289,7 @@ fn change_over<L: Ledger>(
     ensures rest { AreVersionsAtRest versions.new }
     ensures logs { Changes (log_of versions.old)
         (record { session = session; line = line; act = act }) result (log_of versions.new) }
-    ensures goes_on { (once : Bool) → GoesOnBy versions.old session
+    ensures goes_on { (once : Bool) → ExtendsBy versions.old session
         (record { line = line; command = Edit act once }) result versions.new }
 {
     let mut steps: Steps<L> = Steps::start(blank);
@@ -238,7 +314,7 @@ fn forget_over<L: Ledger>(
     ensures rest { AreVersionsAtRest versions.new }
     ensures logs { AnswersForget (log_of versions.old)
         (mark_of version (moment_of versions.old) session line) result (log_of versions.new) }
-    ensures goes_on { GoesOnBy versions.old session
+    ensures goes_on { ExtendsBy versions.old session
         (record { line = line; command = Forget version }) result versions.new }
 {
     let mut steps: Steps<L> = Steps::start(blank);
@@ -253,14 +329,14 @@ fn ask_over<L: Ledger>(
     blank: Blank,
 ) -> Answer
     requires rest { AreVersionsAtRest versions.old }
-    requires kept { IsKept (log_of versions.old) version }
+    requires kept { HoldsVersion (log_of versions.old) version }
     requires fits { QuestionFits (2 ^ versions.old.side) question }
     requires name { blank.name ≡ L.name }
     requires parts { blank.parts ≡ L.parts }
     requires some { 0 < L.parts }
     ensures rest { AreVersionsAtRest versions.new }
     ensures leaves { LeavesAll versions.old versions.new }
-    ensures tells { TellsHeldVersion versions.old version question result }
+    ensures tells { AnswersHeldVersion versions.old version question result }
 {
     let mut steps: Steps<L> = Steps::start(blank);
     versions.ask(version, question, &mut steps)
@@ -275,7 +351,7 @@ fn file_over<L: Ledger>(
     blank: Blank,
 ) -> Result<Vec<u8>, Memory>
     requires rest { AreVersionsAtRest versions.old }
-    requires kept { IsKept (log_of versions.old) version }
+    requires kept { HoldsVersion (log_of versions.old) version }
     requires inside { FitsAt part.at part.size (2 ^ versions.old.side) }
     requires small { (part.size.x ≤ 256) × (part.size.y ≤ 256) × (part.size.z ≤ 256) }
     requires name { blank.name ≡ L.name }
@@ -302,7 +378,7 @@ fn file_root(
     part: Boxed,
 ) -> Result<Vec<u8>, Memory>
     requires are { AreVersions versions.old }
-    requires kept { IsKept (log_of versions.old) version }
+    requires kept { HoldsVersion (log_of versions.old) version }
     requires holds { HoldsTree versions.old.store (option_copied root) }
     requires is { option_copied root ≡ stored_root versions.old.store.roots version }
     requires inside { FitsAt part.at part.size (2 ^ versions.old.side) }

@@ -1,12 +1,12 @@
 ghost use Rattle.std.specs.Prelude.{◌≡◌, ◌+◌, ◌<◌, ◌≤◌, ◌^◌, ◌↔◌, ◌++◌, ◌∷◌, true, false, [], IfOk, IfErr, OnOk, length, IsTrue, Ok, MatchResult};
 ghost use Rattle.vox_read.specs.Contents.{AreModels};
 ghost use Rattle.history_model.specs.Worlds.{is_edit};
-ghost use Rattle.history_model.specs.Logs.{FitsWorld, kept_side, suits_tints};
+ghost use Rattle.history_model.specs.Logs.{FitsWorld, side_of_world, suits_tints};
 ghost use Rattle.history_model.specs.Moments.{world_has, world_tint};
 ghost use Rattle.history_model.specs.Tints.{SameTints};
 ghost use Rattle.script.specs.Fitting.{QuestionFits};
 ghost use Rattle.conformance.specs.Answers.{target_at};
-ghost use Rattle.conformance.specs.Telling.{Tells};
+ghost use Rattle.conformance.specs.QuestionAnswers.{AnswersTo};
 ghost use Rattle.store_run.specs.Kept.{IsLargeStore};
 ghost use Rattle.store_run.specs.Replaying.{ReplayState, IsReplay, MakesOnlyParts, Replays, RefusesRecord};
 
@@ -40,7 +40,7 @@ pub struct Replay<L: Ledger> {
 impl<L: Ledger> Model for Replay<L> {
     ghost use Rattle.std.specs.Coded.{codes};
     ghost use Rattle.node_words.specs.shapes.ShapeCode.{coded_shape};
-    ghost use Rattle.one_store.specs.notes.Told.{coded_wanted};
+    ghost use Rattle.one_store.specs.notes.StoreNotes.{coded_wanted};
     ghost use Rattle.store_run.specs.Replaying.{ReplayState, IsReplay, replay_state};
 
     ghost Value = { ReplayState };
@@ -99,7 +99,7 @@ impl<L: Ledger> Replay<L> {
             return Err(ReplayRefused::Memory);
         }
         if !is_edit(next.act) {
-            return Ok(self.versions.take_way(next));
+            return Ok(self.versions.take_undo(next));
         }
         let steps = &mut self.steps;
         match self.versions.take_edit(next, steps) {
@@ -128,8 +128,9 @@ impl<L: Ledger> Replay<L> {
     #[tactic(auto, using(crate::proofs::Taking::free_few, crate::proofs::Taking::unmarked_kept))]
     pub fn ask(&mut self, version: u32, question: Question) -> Answer
         requires there { version ≤ length self.old.records }
-        requires fits { QuestionFits (kept_side self.old.tint (2 ^ self.old.plan.side)) question }
-        ensures tells { Tells (kept_side self.old.tint (2 ^ self.old.plan.side))
+        requires fits { QuestionFits
+            (side_of_world self.old.tint (2 ^ self.old.plan.side)) question }
+        ensures tells { AnswersTo (side_of_world self.old.tint (2 ^ self.old.plan.side))
             (world_has self.old.models self.old.records version)
             (world_tint self.old.models self.old.records version) question result }
         ensures same { self.new ≡ self.old }
@@ -141,7 +142,7 @@ impl<L: Ledger> Replay<L> {
     /// Whether two versions have the same tints.
     pub fn has_same_tints(&self, v: u32, w: u32) -> bool
         requires there { (v ≤ length self.now.records) × (w ≤ length self.now.records) }
-        ensures { IsTrue result ↔ SameTints (kept_side self.now.tint (2 ^ self.now.plan.side))
+        ensures { IsTrue result ↔ SameTints (side_of_world self.now.tint (2 ^ self.now.plan.side))
             (world_tint self.now.models self.now.records v)
             (world_tint self.now.models self.now.records w) }
     {

@@ -6,7 +6,7 @@ ghost use Rattle.history_model.specs.Positions.{position_after};
 ghost use Rattle.node_words.specs.shapes.Weights.{number_of_trees};
 ghost use Rattle.conformance.specs.Answers.{target_at};
 ghost use Rattle.store_run.specs.Kept.{moment_of, log_of, AreStoredVersions, HoldsSame, HasRecordRoom};
-ghost use Rattle.store_run.specs.Replaying.{TakesEdit, TakesWay, FillsBucket, CanFollow};
+ghost use Rattle.store_run.specs.Replaying.{TakesEdit, TakesUndo, FillsBucket, CanFollow};
 
 use crate::stored_versions::Versions;
 use history_model::Record;
@@ -46,7 +46,7 @@ impl Versions {
 
     /// An undo or a redo becomes the next record, where it has a version to go to.
     #[tactic(auto, using(crate::proofs::KeptWorlds::way_suits, crate::proofs::Targets::may_go_to, crate::proofs::Taking::way_taken, crate::proofs::Taking::target_kept, crate::proofs::Taking::target_follows, crate::proofs::Answering::went_same, crate::proofs::Holding::same_held, crate::proofs::Rebuilding::shared_tree))]
-    pub(crate) fn take_way(&mut self, next: Record) -> bool
+    pub(crate) fn take_undo(&mut self, next: Record) -> bool
         requires are { AreStoredVersions self.old }
         requires few { number_of_trees self.old.store.told.held ≤ 2048 }
         requires room { HasRecordRoom self.old }
@@ -55,7 +55,7 @@ impl Versions {
         requires unmarked { (log_of self.old).marks ≡ [] }
         ensures are { AreStoredVersions self.new }
         ensures same { HoldsSame self.old.store self.new.store }
-        ensures takes { result ≡ true → TakesWay self.old next self.new }
+        ensures takes { result ≡ true → TakesUndo self.old next self.new }
         ensures follows { result ≡ true → CanFollow self.old.records.items next }
         ensures stays { result ≡ false → self.new ≡ self.old }
         ensures target { result ≡ false
@@ -73,7 +73,7 @@ impl Versions {
 
     /// An undo or a redo becomes the next record, which can follow those before it.
     #[tactic(auto, using(crate::proofs::KeptWorlds::way_suits, crate::proofs::Targets::may_go_to, crate::proofs::Taking::way_taken, crate::proofs::Followed::followed_kept, crate::proofs::Followed::target_there, crate::proofs::Answering::went_same, crate::proofs::Holding::same_held, crate::proofs::Rebuilding::shared_tree))]
-    pub(crate) fn follow_way(&mut self, next: Record)
+    pub(crate) fn follow_undo(&mut self, next: Record)
         requires are { AreStoredVersions self.old }
         requires few { number_of_trees self.old.store.told.held ≤ 2048 }
         requires room { HasRecordRoom self.old }
@@ -83,7 +83,7 @@ impl Versions {
             (position_after self.old.records.items) }
         ensures are { AreStoredVersions self.new }
         ensures same { HoldsSame self.old.store self.new.store }
-        ensures takes { TakesWay self.old next self.new }
+        ensures takes { TakesUndo self.old next self.new }
     {
         let to = match self.target(next.act) {
             Some(to) => to,

@@ -1,6 +1,6 @@
 ghost use Rattle.std.specs.Prelude.{◌≡◌, ◌+◌, ◌<◌, ◌≤◌, ◌^◌, ◌↔◌, true, None, IfOk, IfErr, OnOk, IsTrue, [], length, replicate, option_copied, false};
 
-use act_rebuilds::{OwnModels, own_models, rebuild_act, tell, tell_tinted};
+use act_rebuilds::{OwnModels, answer_tinted, own_models, rebuild_act, tell};
 use history_model::{Act, History, Mark, Question, Record};
 use node_words::{Full, Name, NodeStore, Plan, Share, Steps};
 use one_store::OneStore;
@@ -42,13 +42,13 @@ ghost use Rattle.vox_read.specs.Contents.{AreModels};
 ghost use Rattle.node_words.specs.shapes.Weights.{number_of_trees};
 ghost use Rattle.history_model.specs.Worlds.{is_edit};
 ghost use Rattle.history_model.specs.Logs.{FitsWorld, suits_tints};
-ghost use Rattle.core_laws.specs.contents.Versions.{IsKept, IsUnmarked};
+ghost use Rattle.core_laws.specs.contents.Versions.{HoldsVersion, IsUnmarked};
 ghost use Rattle.core_laws.specs.LogEvents.{MayAppend};
 ghost use Rattle.act_rebuilds.specs.Made.{FailsBy};
-ghost use Rattle.one_store.specs.Known.{known_seen, stored_root};
+ghost use Rattle.one_store.specs.Known.{known_state, stored_root};
 ghost use Rattle.script.specs.Fitting.{QuestionFits};
 ghost use Rattle.store_run.specs.Kept.{plan_of, log_of, moment_of, core_with, noted_of, AreStoredVersions, AreVersions, IsLargeStore, HoldsNothing, HoldsTree, GainsTree, LosesTree, HoldsSame, HasRecordRoom};
-ghost use Rattle.store_run.specs.Steps.{IsVersionFound, TellsHeldVersion, StaysSeen, IsOverStore, MakesBeside, WantsFor, side_of, PutsDown, LeavesAll, SharesRootOfVersion, MakesRoot, MeetsBucket, GainsRecord, GainsMark};
+ghost use Rattle.store_run.specs.Steps.{IsVersionFound, AnswersHeldVersion, StaysSeen, IsOverStore, MakesBeside, WantsFor, side_of, PutsDown, LeavesAll, SharesRootOfVersion, MakesRoot, MeetsBucket, GainsRecord, GainsMark};
 
 impl Versions {
     /// Version 0 alone, with room for so many records, of a world whose cells have tints, or have
@@ -123,7 +123,7 @@ impl Versions {
     #[tactic(auto, using(crate::proofs::Sparing::shares_root, crate::proofs::Sparing::are_spared, crate::proofs::Sparing::plain_spared, crate::proofs::Sparing::room_stays))]
     pub(crate) fn share(&mut self, version: u32) -> Option<Share>
         requires are { AreStoredVersions self.old }
-        requires kept { IsKept (log_of self.old) version }
+        requires kept { HoldsVersion (log_of self.old) version }
         requires few { number_of_trees self.old.store.told.held ≤ 2048 }
         ensures are { AreStoredVersions self.new }
         ensures plain { AreVersions self.old → AreVersions self.new }
@@ -159,31 +159,31 @@ impl Versions {
         steps: &mut Steps<L>,
     ) -> Answer
         requires are { AreStoredVersions self.old }
-        requires kept { IsKept (log_of self.old) version }
+        requires kept { HoldsVersion (log_of self.old) version }
         requires few { number_of_trees self.old.store.told.held ≤ 2048 }
         requires fits { QuestionFits (side_of self.old) question }
         ensures are { AreStoredVersions self.new }
         ensures plain { AreVersions self.old → AreVersions self.new }
         ensures leaves { LeavesAll self.old self.new }
         ensures same { HoldsSame self.old.store self.new.store }
-        ensures tells { TellsHeldVersion self.old version question result }
+        ensures tells { AnswersHeldVersion self.old version question result }
     {
         let root = self.share(version);
-        let answer = self.tell_root(version, root.as_ref(), question);
+        let answer = self.answer_root(version, root.as_ref(), question);
         self.give_back(root, steps);
         answer
     }
 
     /// What the question asks of the version whose root is held.
     #[tactic(auto, using(crate::proofs::Rebuilding::share_level, crate::proofs::Rebuilding::share_shows, crate::proofs::Holding::holds_root, crate::proofs::Sparing::are_spared, crate::proofs::Rebuilding::seen_tree, crate::proofs::Rebuilding::stays_seen, crate::proofs::Rebuilding::root_told, crate::proofs::Rebuilding::tints_told, crate::proofs::Rebuilding::large_tints, crate::proofs::Rebuilding::question_plain, crate::proofs::Rebuilding::question_tinted, crate::proofs::Sparing::plain_spared))]
-    pub(crate) fn tell_root(
+    pub(crate) fn answer_root(
         &mut self,
         version: u32,
         root: Option<&Share>,
         question: Question,
     ) -> Answer
         requires are { AreStoredVersions self.old }
-        requires kept { IsKept (log_of self.old) version }
+        requires kept { HoldsVersion (log_of self.old) version }
         requires holds { HoldsTree self.old.store (option_copied root) }
         requires is { option_copied root ≡ stored_root self.old.store.roots version }
         requires fits { QuestionFits (side_of self.old) question }
@@ -191,11 +191,11 @@ impl Versions {
         ensures plain { AreVersions self.old → AreVersions self.new }
         ensures stays { StaysSeen self.old self.new }
         ensures holds { HoldsTree self.new.store (option_copied root.entry) }
-        ensures tells { TellsHeldVersion self.old version question result }
+        ensures tells { AnswersHeldVersion self.old version question result }
     {
         let side = self.side;
         if self.models.tint() {
-            return tell_tinted(&mut self.store, root, side, question);
+            return answer_tinted(&mut self.store, root, side, question);
         }
         tell(&mut self.store, root, side, question)
     }
@@ -249,7 +249,7 @@ impl Versions {
         ensures makes { IfOk result (λ root. MakesBeside self.old act root self.new) }
         ensures meets { IfErr result
             (λ full. FailsBy (WantsFor self.old act) full.level full.bucket
-            (known_seen self.old.store) (known_seen self.new.store)) }
+            (known_state self.old.store) (known_state self.new.store)) }
     {
         let side = self.side;
         rebuild_act(&mut self.store, base, side, &self.models, act, steps)
@@ -282,7 +282,7 @@ impl Versions {
     pub(crate) fn forget<L: Ledger>(&mut self, mark: Mark, steps: &mut Steps<L>)
         requires are { AreStoredVersions self.old }
         requires few { number_of_trees self.old.store.told.held ≤ 2048 }
-        requires kept { IsKept (log_of self.old) mark.version }
+        requires kept { HoldsVersion (log_of self.old) mark.version }
         requires earlier { mark.version < moment_of self.old }
         requires now { mark.at ≡ moment_of self.old }
         ensures are { AreStoredVersions self.new }

@@ -10,22 +10,22 @@ use Rattle.node_words.specs.declared.keys.Key.TheVariants.{Leaf, Node}
 use Rattle.node_words.specs.Held.{IsHeld, IsReached, AreHeld, HoldsChildren, ReachesName, name_in}
 use Rattle.node_words.specs.Plans.{Layout}
 use Rattle.node_words.proofs.HeldLaws.{held_reached}
-use Rattle.core_laws.specs.places.Spots.{Spot, key_words}
+use Rattle.core_laws.specs.places.WordIds.{WordId, key_words}
 use Rattle.core_laws.specs.places.Names.{key_child}
 use Rattle.core_laws.specs.States.{State}
 use Rattle.core_laws.specs.Events.{Rests, Adds, Lowers, Frees}
 use Rattle.core_laws.proofs.Trees.{node_at-same}
 use Rattle.table_rule.specs.Reading.{book_of}
-use Rattle.table_rule.specs.Views.{SeatView, bucket_of, key_spot, known_at}
+use Rattle.table_rule.specs.Views.{SeatView, bucket_of, key_word_id, known_at}
 use Rattle.table_rule.specs.Rules.{MayWrite}
-use Rattle.table_rule.specs.Telling.{ViewTells, tree_word}
+use Rattle.table_rule.specs.ViewFacts.{ViewFacts, tree_word}
 use Rattle.table_rule.specs.Changes.{making, tree_for, children_of_key, meeting, wanted, IsReady, IsFullIn, Published, Lowered, Freed}
 use Rattle.table_rule.proofs.Publishing.{MayPublish, publishes}
 use Rattle.table_rule.proofs.Loads.{meets, peeks}
 use Rattle.table_rule.proofs.Books.{lowers_share, frees_share}
 
 -- a step that tells a fact tells what follows from it
-pub told_more : (p : Layout) (seat : ℕ) (v : SeatView) (x : Spot) (f : ℕ → ℕ)
+pub told_more : (p : Layout) (seat : ℕ) (v : SeatView) (x : WordId) (f : ℕ → ℕ)
     (E : State → State → Type 0) (A B : ℕ → SeatView → Type 0)
     → ((k : ℕ) (w : SeatView) → A k w → B k w) → MayWrite p seat v x f E A
     → MayWrite p seat v x f E B
@@ -55,7 +55,7 @@ row_reached held children row k n lt are root =
           let b = weight_below-part f row k 8 lt in let h = are.weighs f in omega arith);
     })
 
-one_row : (v : SeatView) (children : List (Option Name)) (row other : ℕ → Tree) → ViewTells v
+one_row : (v : SeatView) (children : List (Option Name)) (row other : ℕ → Tree) → ViewFacts v
     → AreHeld v.held children row → AreHeld v.held children other → (k : ℕ) → k < 8
     → (o : Option Name) → name_in children k ≡ o → row k ≡ other k
 one_row v children row other tells a b k lt None e = gone_from_root (row k) (a.names k lt ∙ e)
@@ -65,7 +65,7 @@ one_row v children row other tells a b k lt (Some n) e =
     tells.trees.named (row k) (other k) (row_reached v.held children row k n lt a x)
     (row_reached v.held children other k n lt b y) (x ∙ sym y)
 
-pub rows_agree : (v : SeatView) (children : List (Option Name)) (row other : ℕ → Tree) → ViewTells v
+pub rows_agree : (v : SeatView) (children : List (Option Name)) (row other : ℕ → Tree) → ViewFacts v
     → AreHeld v.held children row → AreHeld v.held children other → (k : ℕ) → k < 8
     → row k ≡ other k
 rows_agree v children row other tells a b k lt =
@@ -78,7 +78,7 @@ tree_same n (Node children) row other same = node_at-same n row other same
 
 -- an entry is added, for whatever trees the children have
 pub publishes_any : (p : Layout) (seat : ℕ) (v : SeatView) (n : Name) (key : keys.Key)
-    (row : ℕ → Tree) → ViewTells v → AreHeld v.held (children_of_key key) row
+    (row : ℕ → Tree) → ViewFacts v → AreHeld v.held (children_of_key key) row
     → MayPublish p v n key row
     → MayWrite p seat v (book_of n) (λ _. 1) (Adds p seat n key)
     (λ _ w. (other : ℕ → Tree) → AreHeld v.held (children_of_key key) other
@@ -100,7 +100,7 @@ publishes_any p seat v n key row tells are may =
 
 -- a share goes, for whatever tree it has
 pub lowers_any : (p : Layout) (seat : ℕ) (v : SeatView) (t : Tree) (n : Name) (book : ℕ)
-    → ViewTells v
+    → ViewFacts v
     → v.turn ≡ Some (bucket_of n) → IsHeld v.held t → root_of t ≡ Some n
     → known_at (book_of n) v.words ≡ Some (book + 1) → 0 < book
     → MayWrite p seat v (book_of n) (λ _. book) (Lowers p seat n)
@@ -113,7 +113,7 @@ lowers_any p seat v t n book tells has held root known some =
     (root ∙ sym r)) e)
     (lowers_share p seat v t n book has held root known some)
 
-pub frees_any : (p : Layout) (seat : ℕ) (v : SeatView) (t : Tree) (n : Name) → ViewTells v
+pub frees_any : (p : Layout) (seat : ℕ) (v : SeatView) (t : Tree) (n : Name) → ViewFacts v
     → v.turn ≡ Some (bucket_of n) → IsHeld v.held t → root_of t ≡ Some n
     → known_at (book_of n) v.words ≡ Some 1 → number_of_trees v.held ≤ 4089
     → MayWrite p seat v (book_of n) (λ _. 0) (Frees p seat n)
@@ -145,7 +145,7 @@ may_publish p v n key turn slot r = record {
 }
 
 pub publishes_ready : (p : Layout) (seat : ℕ) (v : SeatView) (n : Name) (key : keys.Key)
-    → ViewTells v
+    → ViewFacts v
     → v.turn ≡ Some (bucket_of n) → n.slot < p.cap → IsReady p v n key
     → MayWrite p seat v (book_of n) (λ _. 1) (Adds p seat n key)
     (λ _ w. (row : ℕ → Tree) → AreHeld v.held (children_of_key key) row
@@ -155,8 +155,8 @@ publishes_ready p seat v n key tells turn slot r =
     (may_publish p v n key turn slot r)
 
 -- the load that notes a full bucket, for the trees of the wanted children
-pub meets_any : (p : Layout) (seat : ℕ) (v : SeatView) (x : Spot) (n : Name) (key : keys.Key)
-    → ViewTells v → v.turn ≡ Some (bucket_of n) → IsFullIn v.words (bucket_of n) p.cap
+pub meets_any : (p : Layout) (seat : ℕ) (v : SeatView) (x : WordId) (n : Name) (key : keys.Key)
+    → ViewFacts v → v.turn ≡ Some (bucket_of n) → IsFullIn v.words (bucket_of n) p.cap
     → HoldsChildren v.held (children_of_key key)
     → MayWrite p seat v x (λ k. k) (Rests p)
     (λ _ w. (row : ℕ → Tree) → AreHeld v.held (children_of_key key) row
@@ -173,13 +173,13 @@ meets_any p seat v x n key tells turn full h =
     (meets p seat v (bucket_of n) x (wanted n key h.row) turn full refl refl)
 
 -- a word is read, for whatever tree the name has
-pub peeks_any : (p : Layout) (seat : ℕ) (v : SeatView) (n : Name) (i : ℕ) → ViewTells v
+pub peeks_any : (p : Layout) (seat : ℕ) (v : SeatView) (n : Name) (i : ℕ) → ViewFacts v
     → ReachesName v.held n → i < key_words n.level
-    → MayWrite p seat v (key_spot n i) (λ k. k) (Rests p)
+    → MayWrite p seat v (key_word_id n i) (λ k. k) (Rests p)
     (λ k w. (w ≡ v)
     × ((t : Tree) → IsReached v.held t → root_of t ≡ Some n → k ≡ tree_word t i))
 peeks_any p seat v n i tells r lt =
-    told_more p seat v (key_spot n i) (λ k. k) (Rests p)
+    told_more p seat v (key_word_id n i) (λ k. k) (Rests p)
     (λ k w. (w ≡ v) × (k ≡ tree_word r.tree i))
     (λ k w. (w ≡ v)
     × ((t : Tree) → IsReached v.held t → root_of t ≡ Some n → k ≡ tree_word t i))

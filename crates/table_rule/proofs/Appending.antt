@@ -14,7 +14,7 @@ use Rattle.node_words.proofs.OfShapes.WeightLaws.{weight_of-there, weight_of-gon
 use Rattle.node_words.specs.Held.{IsHeld}
 use Rattle.node_words.specs.Plans.{Layout}
 use Rattle.core_laws.specs.places.KeyWords.{child_of_word}
-use Rattle.core_laws.specs.places.Spots.{Spot, Sessions, LogLength, Version, versions}
+use Rattle.core_laws.specs.places.WordIds.{WordId, Sessions, LogLength, Version, versions}
 use Rattle.core_laws.specs.places.Words.{word_of_child, IsChildAt}
 use Rattle.core_laws.proofs.OfPlaces.Children.{one_child}
 use Rattle.core_laws.proofs.OfPlaces.KeyLaws.{word_back}
@@ -30,15 +30,15 @@ use Rattle.core_laws.proofs.SeenNodes.{gone_tree}
 use Rattle.core_laws.specs.Events.{Trades, PutsRoot, no_weight, at_most_one}
 use Rattle.core_laws.specs.LogEvents.{MayAppend, Appends, appends}
 use Rattle.core_laws.specs.Making.{Makes}
-use Rattle.core_laws.specs.Standing.{Stands}
+use Rattle.core_laws.specs.LiveTrees.{IsLiveTree}
 use Rattle.core_laws.specs.States.{State, tree_at}
 use Rattle.table_rule.specs.Reading.{Wrote, root_word}
 use Rattle.table_rule.proofs.Readings.{traded, appends_root}
 use Rattle.table_rule.specs.LogKnowing.{KnowsLog}
-use Rattle.table_rule.specs.LogTelling.{number_seen, SeesAll}
+use Rattle.table_rule.specs.LogFacts.{number_seen, SeesAll}
 use Rattle.table_rule.specs.LogWords.{log_in, records_in, record_of_words, word_in, IsLogWritten}
 use Rattle.table_rule.specs.Rules.{KeepsRule, KeepsLog, table_state, MayWrite}
-use Rattle.table_rule.specs.Turning.{turn_of}
+use Rattle.table_rule.specs.TurnRules.{turn_of}
 use Rattle.table_rule.specs.Views.{SeatView, names_held}
 use Rattle.table_rule.proofs.Decoding.{record_back}
 use Rattle.table_rule.proofs.LogPartA.{log_word_step, of_log_not_bucket_turn, not_of_log}
@@ -88,7 +88,7 @@ child_back level word o is e =
 pub side_small : (side : ℕ) → side ≤ 12 → 2 ^ side < 2 ^ 16
 side_small side le = let p = pow-le-pow_right {n = 2} (omega arith) le in omega arith
 
-module _ (p : Layout) (seat : ℕ) (v : SeatView) (r : Record) (root : Tree) (old : Spot → ℕ)
+module _ (p : Layout) (seat : ℕ) (v : SeatView) (r : Record) (root : Tree) (old : WordId → ℕ)
     (views : List SeatView) (k : KeepsRule p v.models old views)
     (at : slice_get views seat ≡ Some v) (sees : SeesAll v) (own : Contains v.numbers r.session)
     (words : HasNextWords v r (root_of root)) (may : IsAppendable p v r root) where
@@ -136,7 +136,7 @@ module _ (p : Layout) (seat : ℕ) (v : SeatView) (r : Record) (root : Tree) (ol
           let m = (marked_there p v.models old views (suc n) when k (omega arith) e).1 in
           let a = m.0 in let b = m.1 in omega arith)
 
-  stands : (root ≡ Gone) ⊎ Stands p c root
+  stands : (root ≡ Gone) ⊎ IsLiveTree p c root
   stands = ⊎_elim (λ e. inl e) (λ h. inr (k.knows.held seat v at root h)) may.is_held
 
   pub given : Given v.held root
@@ -148,7 +148,7 @@ module _ (p : Layout) (seat : ℕ) (v : SeatView) (r : Record) (root : Tree) (ol
   tree_is = ⊎_elim
       (λ (e : root ≡ Gone). ap (λ (t : Tree). tree_at c.key (top p.side) (root_of t)) e
       ∙ gone_tree c.key (top p.side) ∙ sym e)
-      (λ (s : Stands p c root). (let name = root_stands p c root s in
+      (λ (s : IsLiveTree p c root). (let name = root_stands p c root s in
       ap (λ (o : Option Name). tree_at c.key (top p.side) o) name
       ∙ ap (λ (l : ℕ). tree_at c.key l (Some s.name)) (sym (may.level s.name name))
       ∙ s.tree)) stands
@@ -157,7 +157,7 @@ module _ (p : Layout) (seat : ℕ) (v : SeatView) (r : Record) (root : Tree) (ol
   is_child = ⊎_elim
       (λ (e : root ≡ Gone). subst (λ (o : Option Name). IsChildAt (top p.side) o)
       (sym (ap root_of e)) tt)
-      (λ (s : Stands p c root). (let name = root_stands p c root s in
+      (λ (s : IsLiveTree p c root). (let name = root_stands p c root s in
       subst (λ (o : Option Name). IsChildAt (top p.side) o) (sym name) (
         may.level s.name name,
         (let a = s.live.name.slot_in in let b = k.plan.cap_high in omega arith),
@@ -264,7 +264,7 @@ module _ (p : Layout) (seat : ℕ) (v : SeatView) (r : Record) (root : Tree) (ol
       ∙ (k.turns.owned seat v at r.session own).1)) o)
       seat_more
 
-  module _ (new : Spot → ℕ) (wrote : Wrote old LogLength (suc n) new) where
+  module _ (new : WordId → ℕ) (wrote : Wrote old LogLength (suc n) new) where
     abbrev d : State
     d = table_state p new after
 

@@ -15,18 +15,18 @@ use Rattle.node_words.specs.declared.keys.Key.TheVariants.{Leaf, Node}
 use Rattle.node_words.specs.Plans.{Layout}
 use Rattle.node_words.specs.Held.{IsHeld}
 use Rattle.core_laws.specs.places.Names.{key_child}
-use Rattle.core_laws.specs.places.Spots.{Spot, LogTurn, LogLength, Version, Sessions}
+use Rattle.core_laws.specs.places.WordIds.{WordId, LogTurn, LogLength, Version, Sessions}
 use Rattle.core_laws.proofs.OfPlaces.KeyLaws.{key_back}
 use Rattle.core_laws.specs.States.{State, IsLive, tree_at, tree_of}
-use Rattle.core_laws.specs.Standing.{Stands, StandsOrGone}
+use Rattle.core_laws.specs.LiveTrees.{IsLiveTree, IsLiveOrGone}
 use Rattle.core_laws.specs.Soundness.{FitsLevel}
 use Rattle.core_laws.specs.Counting.{weight, children_weight}
 use Rattle.core_laws.specs.Events.{Trades, StoreStep, Raises, Lowers, Frees, OthersStay, raises, lowers, frees, no_weight, one_name, children_named}
 use Rattle.core_laws.proofs.SeenNodes.{leaf_tree, node_tree}
 use Rattle.table_rule.specs.Reading.{name_or, Wrote, book_of}
 use Rattle.table_rule.proofs.Readings.{traded, raises_book, lowers_book, frees_book}
-use Rattle.table_rule.specs.Views.{SeatView, bucket_of, key_spot, known_at, names_held}
-use Rattle.table_rule.specs.Turning.{used_of, KeepsTurns}
+use Rattle.table_rule.specs.Views.{SeatView, bucket_of, key_word_id, known_at, names_held}
+use Rattle.table_rule.specs.TurnRules.{used_of, KeepsTurns}
 use Rattle.table_rule.specs.LogWords.{log_in}
 use Rattle.table_rule.specs.Rules.{KeepsRule, table_state, MayWrite}
 use Rattle.table_rule.proofs.Lookups.{get_set_same}
@@ -42,7 +42,7 @@ use Rattle.table_rule.proofs.Freeing.{written, is_written, freed_unheld}
 use Rattle.table_rule.proofs.Unused.{unused_book, used_where_live}
 use Rattle.table_rule.proofs.Shares.{take_one, held_cons, held_append, row_list, row_list-weighs, row_held}
 
-pub book_log : (old new : Spot → ℕ) (n : Name) (k : ℕ) → Wrote old (book_of n) k new
+pub book_log : (old new : WordId → ℕ) (n : Name) (k : ℕ) → Wrote old (book_of n) k new
     → LogStays old new
 book_log old new n k wrote =
     record {
@@ -89,7 +89,7 @@ children_weigh f key row names =
     row_sum (λ k. weight f (key_child key k))
     (by_name f) row 8 (λ k lt. child_weighs f (key_child key k) (row k) (names k lt))
 
-module _ (p : Layout) (models : List Content) (old new : Spot → ℕ) (views : List SeatView)
+module _ (p : Layout) (models : List Content) (old new : WordId → ℕ) (views : List SeatView)
     (seat : ℕ) (v w : SeatView) (r : KeepsRule p models old views)
     (at : slice_get views seat ≡ Some v) where
   abbrev pub c : State
@@ -114,7 +114,7 @@ module _ (p : Layout) (models : List Content) (old new : Spot → ℕ) (views : 
   book_ruled : (n : Name) (k : ℕ) → v.turn ≡ Some (bucket_of n) → Wrote old (book_of n) k new
       → (k ≡ 0) ⊎ (n.slot < old (used_of (bucket_of n))) → StoreStep p seat c d
       → ((m : Name) → IsLive p d m → IsLive p c m) → (held : List Tree)
-      → w ≡ holding v n k held → ((t : Tree) → IsHeld held t → Stands p c t)
+      → w ≡ holding v n k held → ((t : Tree) → IsHeld held t → IsLiveTree p c t)
       → number_of_trees held ≤ 4096 → KeepsRule p models new (set views seat w)
   book_ruled n k has wrote used step before held is stands few =
       ruled_step p models old new views seat v w r at
@@ -170,7 +170,7 @@ raises_share p seat v n book has low known some room models old views r at =
     traded names_held views seat v w no_weight (one_name n) at (λ f. omega arith)
     (λ f. (let a = weigh_names f v in let b = weigh_names f w in
     let e = weigh-cons (by_name f) t v.held in let s = by_root f t n root in omega arith)) in
-    let step : (new : Spot → ℕ) → Wrote old (book_of n) (book + 1) new
+    let step : (new : WordId → ℕ) → Wrote old (book_of n) (book + 1) new
     → Raises p seat n c (table_state p new (set views seat w)) =
     λ new wrote. raises_book p (log_in p) old new (map names_held views)
     (map names_held (set views seat w)) seat n live.name live.book
@@ -192,8 +192,8 @@ raises_share p seat v n book has low known some room models old views r at =
         tree = t;
         root = root;
         words = λ i k lt is.
-            sym (r.turns.known seat v at (bucket_of n) (key_spot n i) k has (refl, refl) is)
-            ∙ sym (key_back n.level (λ j. old (key_spot n j)) i lt)
+            sym (r.turns.known seat v at (bucket_of n) (key_word_id n i) k has (refl, refl) is)
+            ∙ sym (key_back n.level (λ j. old (key_word_id n j)) i lt)
             ∙ word_of_tree c n.level n i refl (r.sound.entries.fits n live) lt;
         is = refl;
       };
@@ -227,7 +227,7 @@ lowers_share p seat v t n book has held root known some models old views r at =
     (map names_held (set views seat w)) =
     traded names_held views seat v w (one_name n) no_weight at (λ f. holds_one f v t n root held)
     (λ f. (let all = loses_one f v w t n root rest.weighs in omega arith)) in
-    let step : (new : Spot → ℕ) → Wrote old (book_of n) book new
+    let step : (new : WordId → ℕ) → Wrote old (book_of n) book new
     → Lowers p seat n c (table_state p new (set views seat w)) =
     λ new wrote. lowers_book p (log_in p) old new (map names_held views)
     (map names_held (set views seat w)) seat book n stands.0.name was some wrote trade in
@@ -301,11 +301,11 @@ frees_share p seat v t n has held root known room models old views r at =
     (map names_held (set views seat w)) =
     traded names_held views seat v w (one_name n) (children_named (c.key n)) at
     (λ f. holds_one f v t n root held) (λ f. frees_one f v w t n (c.key n) root names weighs) in
-    let step : (new : Spot → ℕ) → Wrote old (book_of n) 0 new
+    let step : (new : WordId → ℕ) → Wrote old (book_of n) 0 new
     → Frees p seat n c (table_state p new (set views seat w)) =
     λ new wrote. frees_book p (log_in p) old new (map names_held views)
     (map names_held (set views seat w)) seat n stands.0.name was wrote trade in
-    let rule : (new : Spot → ℕ) → Wrote old (book_of n) 0 new
+    let rule : (new : WordId → ℕ) → Wrote old (book_of n) 0 new
     → KeepsRule p models new (set views seat w) =
     λ new wrote. book_ruled p models old new views seat v w r at n 0 has wrote (inl refl)
     (frees n (step new wrote))
@@ -315,13 +315,13 @@ frees_share p seat v t n has held root known room models old views r at =
     (λ l. (let k = row_held row 8 u l in
     let s = standing_child p c r.sound.entries t k.place
     (inr (r.knows.held seat v at t held)) in
-    let q = standing_at p c u k.name (subst (StandsOrGone p c) (sym k.same) s) k.root in
+    let q = standing_at p c u k.name (subst (IsLiveOrGone p c) (sym k.same) s) k.root in
     record { name = k.name; live = q.0; tree = q.1 }))
     (λ o. r.knows.held seat v at u (kept_held v.held rest.rest u
     (λ f. (let e = rest.weighs f in omega arith)) o))
     (held_append (row_list row 8) rest.rest u h))
     (let e = weighs (λ _. 1) in let o = weight_below-one row 8 in omega arith) in
-    let now : Spot → ℕ = written old (book_of n) 0 in
+    let now : WordId → ℕ = written old (book_of n) 0 in
     let wrote : Wrote old (book_of n) 0 now = is_written old (book_of n) 0 in
     let unheld = freed_unheld p models old now views (set views seat w) seat w t n r
     (rule now wrote) (step now wrote) wrote (get_set_same views seat w v at) stands.1 in

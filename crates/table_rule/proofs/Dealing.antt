@@ -14,19 +14,19 @@ use Rattle.node_words.specs.shapes.Weights.{number_of_trees}
 use Rattle.node_words.proofs.OfShapes.WeightLaws.{weigh-nil}
 use Rattle.node_words.specs.Plans.{Layout}
 use Rattle.node_words.specs.Held.{IsHeld, Wanted}
-use Rattle.core_laws.specs.places.Spots.{Spot, Sessions, LogTurn, IsSpot}
+use Rattle.core_laws.specs.places.WordIds.{WordId, Sessions, LogTurn, IsWordId}
 use Rattle.core_laws.specs.Counting.{holdings}
 use Rattle.node_words.specs.Enough.{HasEnough, enough_stays}
 use Rattle.core_laws.specs.LogEvents.{Reseats}
 use Rattle.core_laws.proofs.StepLaws.{reseats_sound}
 use Rattle.table_rule.specs.Reading.{names_of}
 use Rattle.table_rule.specs.Views.{SeatView, BucketAt, names_held, known_at}
-use Rattle.table_rule.specs.Turning.{IsOf, turn_of, IsTurnWord, KeepsTurns, IsCarried}
+use Rattle.table_rule.specs.TurnRules.{IsOf, turn_of, IsTurnWord, KeepsTurns, IsCarried}
 use Rattle.table_rule.specs.Knowing.{all_made, Knows}
-use Rattle.core_laws.specs.Standing.{Stands}
+use Rattle.core_laws.specs.LiveTrees.{IsLiveTree}
 use Rattle.history_model.specs.Logs.{Log}
 use Rattle.table_rule.specs.LogKnowing.{IsPrefix, OwnsIn, WasFound}
-use Rattle.table_rule.specs.LogTurning.{IsOfLog}
+use Rattle.table_rule.specs.LogTurnRules.{IsOfLog}
 use Rattle.table_rule.specs.LogViews.{no_log}
 use Rattle.retain.specs.Listing.{Found}
 use Rattle.table_rule.specs.LogWords.{log_in}
@@ -76,7 +76,7 @@ held_end f (x ∷ views) v none =
     let b = sum_by-cons (λ (ns : List Name). sum_by f ns) (names_held x) (map names_held views) in
     omega (arith, more, a, b)
 
-module _ (p : Layout) (models : List Content) (mem : Spot → ℕ) (views : List SeatView) (seat : ℕ)
+module _ (p : Layout) (models : List Content) (mem : WordId → ℕ) (views : List SeatView) (seat : ℕ)
     (v : SeatView) (r : KeepsRule p models mem views) (at : slice_get views seat ≡ Some v)
     (right : v.right ≡ true) (some : v.numbers ≢ []) where
   abbrev a : SeatView
@@ -136,13 +136,13 @@ module _ (p : Layout) (models : List Content) (mem : Spot → ℕ) (views : List
         (λ h. absurd (let no : ⊥ = cc in no)) (λ j d ne e h. one_right j d _ ne e h)
         (λ h. (refl, (r.turns.right seat v at right).1));
     turn = dealt
-        (λ i d. (c : BucketAt) → d.turn ≡ Some c → IsSpot p (turn_of c)
+        (λ i d. (c : BucketAt) → d.turn ≡ Some c → IsWordId p (turn_of c)
         × IsTurnWord d (mem (turn_of c)))
         (λ c h. let t = r.turns.turn seat v at c h in
         (t.0, record { number = t.1.number; carried = t.1.carried; is = t.1.is }))
         (λ j d _ e. r.turns.turn j d e) (λ c h. absurd (none-some c h));
     back = dealt
-        (λ i d. (c : BucketAt) → IsSpot p (turn_of c) → IsTurnWord d (mem (turn_of c))
+        (λ i d. (c : BucketAt) → IsWordId p (turn_of c) → IsTurnWord d (mem (turn_of c))
         → d.turn ≡ Some c)
         (λ c low m. r.turns.back seat v at c low
         (record { number = m.number; carried = m.carried; is = m.is }))
@@ -150,7 +150,7 @@ module _ (p : Layout) (models : List Content) (mem : Spot → ℕ) (views : List
     carried = still_carried;
     named = r.turns.named;
     known = dealt
-        (λ i d. (c : BucketAt) (x : Spot) (n : ℕ) → d.turn ≡ Some c → IsOf c x
+        (λ i d. (c : BucketAt) (x : WordId) (n : ℕ) → d.turn ≡ Some c → IsOf c x
         → known_at x d.words ≡ Some n → mem x ≡ n) (r.turns.known seat v at)
         (λ j d _ e. r.turns.known j d e) (λ c x n h of l. absurd (none-some c h));
     unused = r.turns.unused;
@@ -169,7 +169,7 @@ module _ (p : Layout) (models : List Content) (mem : Spot → ℕ) (views : List
   grows s c =
       made_left after (b ∷ []) s (made_grows views seat v a at (record { made = λ s h. h }) s c)
 
-  stands : (t : Tree) → Stands p (table_state p mem views) t → Stands p (table_state p mem all) t
+  stands : (t : Tree) → IsLiveTree p (table_state p mem views) t → IsLiveTree p (table_state p mem all) t
   stands t s =
       record {
         name = s.name;
@@ -184,7 +184,7 @@ module _ (p : Layout) (models : List Content) (mem : Spot → ℕ) (views : List
     same_models =
         dealt (λ i d. d.alive ≡ true → d.models ≡ models) (r.knows.same_models seat v at)
         (λ j d _ e. r.knows.same_models j d e) (r.knows.same_models seat v at);
-    held = dealt (λ i d. (t : Tree) → IsHeld d.held t → Stands p (table_state p mem all) t)
+    held = dealt (λ i d. (t : Tree) → IsHeld d.held t → IsLiveTree p (table_state p mem all) t)
         (λ t h. stands t (r.knows.held seat v at t h))
         (λ j d _ e t h. stands t (r.knows.held j d e t h))
         (λ t h. absurd (let e = h.weighs (λ _. 1) in let n = weigh-nil (λ _. 1) in omega arith));
@@ -209,7 +209,7 @@ module _ (p : Layout) (models : List Content) (mem : Spot → ℕ) (views : List
           (λ j d _ e. r.log.turn.back j d e) (λ m. none_has m.number _ m.carried);
       named = r.log.turn.named;
       known = dealt
-          (λ i d. (x : Spot) (n : ℕ) → d.log.turn ≡ true → IsOfLog x
+          (λ i d. (x : WordId) (n : ℕ) → d.log.turn ≡ true → IsOfLog x
           → known_at x d.log.words ≡ Some n → mem x ≡ n) (r.log.turn.known seat v at)
           (λ j d _ e. r.log.turn.known j d e) (λ x n h. absurd (let no : ⊥ = cc in no));
     };

@@ -13,25 +13,25 @@ use Rattle.node_words.specs.shapes.Weights.{weigh, weight_of, number_of_trees}
 use Rattle.node_words.proofs.OfShapes.WeightLaws.{weigh-cons, weight_of-there, weight_of-gone, weight_of-one}
 use Rattle.node_words.specs.Held.{IsHeld}
 use Rattle.node_words.specs.Plans.{Layout}
-use Rattle.core_laws.specs.places.Spots.{Spot, Sessions, LogLength, Version, versions}
+use Rattle.core_laws.specs.places.WordIds.{WordId, Sessions, LogLength, Version, versions}
 use Rattle.history_model.specs.Logs.{Log}
 use Rattle.history_model.specs.declared.histories.Mark.{Mark}
 use Rattle.core_laws.specs.contents.Aligned.{top, world_block}
-use Rattle.core_laws.specs.contents.Versions.{IsUnmarked, MarkComes}
+use Rattle.core_laws.specs.contents.Versions.{IsUnmarked, InsertsMark}
 use Rattle.core_laws.proofs.OfContents.MarkLaws.{each_mark}
 use Rattle.core_laws.proofs.EntrySteps.{was_live}
 use Rattle.core_laws.specs.Events.{Trades, TakesRoot, no_weight, at_most_one}
 use Rattle.core_laws.specs.LogEvents.{Forgets, forgets}
-use Rattle.core_laws.specs.Standing.{Stands}
+use Rattle.core_laws.specs.LiveTrees.{IsLiveTree}
 use Rattle.core_laws.specs.States.{State, tree_at}
 use Rattle.table_rule.specs.Reading.{Wrote}
 use Rattle.table_rule.proofs.Readings.{traded, forgets_root}
 use Rattle.table_rule.specs.LogKnowing.{IsPrefix, WasFound, KnowsLog, ListsOwn, if_among}
-use Rattle.table_rule.specs.LogTelling.{number_seen, seen_has, SeesAll, IsShownRoot}
+use Rattle.table_rule.specs.LogFacts.{number_seen, seen_has, SeesAll, IsShownRoot}
 use Rattle.retain.specs.Listing.{Accepted, Found}
 use Rattle.table_rule.specs.LogWords.{log_in, records_in, mark_of_words, marks_in}
 use Rattle.table_rule.specs.Rules.{KeepsRule, KeepsOn, KeepsLog, table_state, MayWrite}
-use Rattle.table_rule.specs.Turning.{turn_of}
+use Rattle.table_rule.specs.TurnRules.{turn_of}
 use Rattle.table_rule.specs.Views.{SeatView, names_held, known_at}
 use Rattle.table_rule.proofs.LogPartA.{log_word_step, of_log_not_bucket_turn, not_of_log}
 use Rattle.table_rule.proofs.LogPartC.{SeatKnows, one_knows, knows_move}
@@ -68,7 +68,7 @@ taken held t (Some n) e = record {
   each = λ u h. ⊎_elim (λ s. inl (s, (n, e))) (λ o. inr o) (held_cons t u held h);
 }
 
-module _ (seat : ℕ) (v : SeatView) (m : Mark) (root : Option Name) (old : Spot → ℕ)
+module _ (seat : ℕ) (v : SeatView) (m : Mark) (root : Option Name) (old : WordId → ℕ)
     (views : List SeatView) (k : KeepsRule v.plan v.models old views)
     (at : slice_get views seat ≡ Some v) (sees : SeesAll v) (shown : IsShownRoot v m.version root)
     (earlier : m.version < number_seen v) (now : m.at ≡ number_seen v)
@@ -129,7 +129,7 @@ module _ (seat : ℕ) (v : SeatView) (m : Mark) (root : Option Name) (old : Spot
   tree_shows =
       shown_cells old views seat v k at (lives p v.models old views seat v k at) u root shown
 
-  tree_stands : (n : Name) → root_of tree ≡ Some n → Stands p c tree
+  tree_stands : (n : Name) → root_of tree ≡ Some n → IsLiveTree p c tree
   tree_stands n e =
       let is : root ≡ Some n = sym tree_root ∙ e in
       let live = shown_lives old views seat v k at (lives p v.models old views seat v k at) u n
@@ -172,7 +172,7 @@ module _ (seat : ℕ) (v : SeatView) (m : Mark) (root : Option Name) (old : Spot
       with_new m v.log.seen.marks
       (λ y h e. absurd (All-contains (λ z. z.version ≢ u) v.log.seen.marks y seen_none h e))
 
-  module _ (new : Spot → ℕ) (wrote : Wrote old (Version u 6) (suc m.at) new) where
+  module _ (new : WordId → ℕ) (wrote : Wrote old (Version u 6) (suc m.at) new) where
     abbrev d : State
     d = table_state p new after
 
@@ -194,7 +194,7 @@ module _ (seat : ℕ) (v : SeatView) (m : Mark) (root : Option Name) (old : Spot
       is = mark_is;
     }
 
-    comes : MarkComes log.marks m (marks_in new versions)
+    comes : InsertsMark log.marks m (marks_in new versions)
     comes = mark_comes old new m marked versions
         (let few = log_few p v.models old views seat v k at in let a = all in omega arith)
 
@@ -345,7 +345,7 @@ module _ (seat : ℕ) (v : SeatView) (m : Mark) (root : Option Name) (old : Spot
           grew = record { made = λ s h. h };
           held = λ t h. inl (⊎_elim
               (λ (x : (t ≡ tree) × ((n : Name) × (root_of tree ≡ Some n))).
-              subst (λ (y : Tree). Stands p c y) (sym x.0) (tree_stands x.1.0 x.1.1))
+              subst (λ (y : Tree). IsLiveTree p c y) (sym x.0) (tree_stands x.1.0 x.1.1))
               (λ (o : IsHeld v.held t). k.knows.held seat v at t o) (held_more.each t h));
           few = (let e = held_more.weighs (λ _. 1) in let o = weight_of-one tree in omega arith);
           made = λ n live. inl (was_live p c d n takes.entries live);

@@ -14,19 +14,19 @@ use Rattle.node_words.specs.shapes.Weights.{number_of_trees}
 use Rattle.node_words.proofs.OfShapes.WeightLaws.{weigh-nil}
 use Rattle.node_words.specs.Plans.{Layout}
 use Rattle.node_words.specs.Held.{IsHeld, Wanted}
-use Rattle.core_laws.specs.places.Spots.{Spot, Sessions, LogTurn, IsSpot}
-use Rattle.core_laws.specs.Standing.{Stands}
+use Rattle.core_laws.specs.places.WordIds.{WordId, Sessions, LogTurn, IsWordId}
+use Rattle.core_laws.specs.LiveTrees.{IsLiveTree}
 use Rattle.core_laws.specs.Counting.{holdings}
 use Rattle.node_words.specs.Enough.{HasEnough, enough_stays}
 use Rattle.core_laws.specs.LogEvents.{Reseats}
 use Rattle.core_laws.proofs.StepLaws.{reseats_sound}
 use Rattle.table_rule.specs.Reading.{names_of}
 use Rattle.table_rule.specs.Views.{SeatView, BucketAt, names_held, known_at, number_dec, spent}
-use Rattle.table_rule.specs.Turning.{IsOf, turn_of, IsTurnWord, IsCarried, KeepsTurns}
+use Rattle.table_rule.specs.TurnRules.{IsOf, turn_of, IsTurnWord, IsCarried, KeepsTurns}
 use Rattle.table_rule.specs.Knowing.{all_made, Knows}
 use Rattle.history_model.specs.Logs.{Log}
 use Rattle.table_rule.specs.LogKnowing.{IsPrefix, OwnsIn, WasFound, KnowsLog}
-use Rattle.table_rule.specs.LogTurning.{IsOfLog, KeepsLogTurn}
+use Rattle.table_rule.specs.LogTurnRules.{IsOfLog, KeepsLogTurn}
 use Rattle.table_rule.specs.LogViews.{no_log}
 use Rattle.retain.specs.Listing.{Found}
 use Rattle.table_rule.specs.LogWords.{log_in}
@@ -61,7 +61,7 @@ made_there (v ∷ views) zero d s e c =
 made_there (v ∷ views) (suc j) d s e c =
     contains_right v.made (all_made views) s (made_there views j d s e c)
 
-module _ (p : Layout) (models : List Content) (mem : Spot → ℕ) (views : List SeatView)
+module _ (p : Layout) (models : List Content) (mem : WordId → ℕ) (views : List SeatView)
     (seat other : ℕ) (v w : SeatView) (r : KeepsRule p models mem views)
     (at : slice_get views seat ≡ Some v) (at_other : slice_get views other ≡ Some w)
     (apart : other ≢ seat) (bare : w.held ≡ []) (idle : w.turn ≡ None)
@@ -173,7 +173,7 @@ module _ (p : Layout) (models : List Content) (mem : Spot → ℕ) (views : List
         (λ h. no_right _ h) (λ h. absurd (let no : ⊥ = cc in no))
         (λ j d _ _ e h. r.turns.right j d e h);
     turn = everyone
-        (λ i d. (b : BucketAt) → d.turn ≡ Some b → IsSpot p (turn_of b)
+        (λ i d. (b : BucketAt) → d.turn ≡ Some b → IsWordId p (turn_of b)
         × IsTurnWord d (mem (turn_of b)))
         (λ b h. (let t = r.turns.turn seat v at b h in (
           t.0,
@@ -185,7 +185,7 @@ module _ (p : Layout) (models : List Content) (mem : Spot → ℕ) (views : List
         )))
         (λ b h. absurd (none-some b h)) (λ j d _ _ e. r.turns.turn j d e);
     back = everyone
-        (λ i d. (b : BucketAt) → IsSpot p (turn_of b) → IsTurnWord d (mem (turn_of b))
+        (λ i d. (b : BucketAt) → IsWordId p (turn_of b) → IsTurnWord d (mem (turn_of b))
         → d.turn ≡ Some b)
         (λ b low m. ⊎_elim
         (λ l. absurd (none-some b (sym idle ∙ r.turns.back other w at_other b low
@@ -196,7 +196,7 @@ module _ (p : Layout) (models : List Content) (mem : Spot → ℕ) (views : List
         (λ b low m. no_number m.number _ m.carried) (λ j d _ _ e. r.turns.back j d e);
     named = r.turns.named;
     known = everyone
-        (λ i d. (b : BucketAt) (x : Spot) (n : ℕ) → d.turn ≡ Some b → IsOf b x
+        (λ i d. (b : BucketAt) (x : WordId) (n : ℕ) → d.turn ≡ Some b → IsOf b x
         → known_at x d.words ≡ Some n → mem x ≡ n) (r.turns.known seat v at)
         (λ b x n h of l. absurd (none-some b h)) (λ j d _ _ e. r.turns.known j d e);
     unused = r.turns.unused;
@@ -232,7 +232,7 @@ module _ (p : Layout) (models : List Content) (mem : Spot → ℕ) (views : List
     ]
   ]
 
-  stands : (t : Tree) → Stands p (table_state p mem views) t → Stands p (table_state p mem all) t
+  stands : (t : Tree) → IsLiveTree p (table_state p mem views) t → IsLiveTree p (table_state p mem all) t
   stands t s = record {
     name = s.name;
     live = record { name = s.live.name; book = s.live.book };
@@ -246,7 +246,7 @@ module _ (p : Layout) (models : List Content) (mem : Spot → ℕ) (views : List
     same_models = everyone (λ i d. d.alive ≡ true → d.models ≡ models)
         (r.knows.same_models seat v at) (λ h. absurd (let no : ⊥ = cc in no))
         (λ j d _ _ e. r.knows.same_models j d e);
-    held = everyone (λ i d. (t : Tree) → IsHeld d.held t → Stands p (table_state p mem all) t)
+    held = everyone (λ i d. (t : Tree) → IsHeld d.held t → IsLiveTree p (table_state p mem all) t)
         (λ t h. stands t (r.knows.held seat v at t h))
         (λ t h. absurd (let e = h.weighs (λ _. 1) in let n = weigh-nil (λ _. 1) in omega arith))
         (λ j d _ _ e t h. stands t (r.knows.held j d e t h));
@@ -287,7 +287,7 @@ module _ (p : Layout) (models : List Content) (mem : Spot → ℕ) (views : List
         (λ m. no_number m.number _ m.carried) (λ j d _ _ e. r.log.turn.back j d e);
     named = r.log.turn.named;
     known = everyone
-        (λ i d. (x : Spot) (n : ℕ) → d.log.turn ≡ true → IsOfLog x
+        (λ i d. (x : WordId) (n : ℕ) → d.log.turn ≡ true → IsOfLog x
         → known_at x d.log.words ≡ Some n → mem x ≡ n) (r.log.turn.known seat v at)
         (λ x n h. absurd (let no : ⊥ = cc in no)) (λ j d _ _ e. r.log.turn.known j d e);
   }

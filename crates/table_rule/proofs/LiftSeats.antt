@@ -6,16 +6,18 @@ use Rattle.node_words.proofs.OfShapes.WeightLaws.{weigh-nil}
 use Rattle.node_words.specs.shapes.Tree.{Tree}
 use Rattle.node_words.specs.Plans.{Layout}
 use Rattle.node_words.specs.Held.{IsHeld, IsReached}
-use Rattle.core_laws.specs.places.Spots.{Spot, Sessions}
-use Rattle.table_rule.specs.Reading.{Wrote, word_at}
+use Rattle.core_laws.specs.places.WordIds.{WordId, Sessions}
+use Rattle.table_rule.specs.Reading.{Wrote, stored_at, word_at}
 use Rattle.table_rule.proofs.Rows.{row_written}
+use Rattle.table_rule.proofs.Lift.{row_said}
+use Rattle.table_rule.proofs.Tags.{tags_outside}
 use Rattle.vox_read.specs.Contents.{Content}
 use Rattle.table_rule.specs.LogKnowing.{ListsOwn}
 use Rattle.table_rule.specs.LogViews.{LogView, log_starting}
 use Rattle.table_rule.specs.Views.{SeatView, spent}
 use Rattle.table_rule.proofs.OwnLaws.{nothing_numbered}
 use Rattle.table_rule.specs.Rules.{IsRuled}
-use Rattle.table_rule.specs.Telling.{TellsInUse, ViewTells}
+use Rattle.table_rule.specs.ViewFacts.{FactsInUse, ViewFacts}
 use Rattle.table_rule.specs.Seating.{seat_numbered, handing, handed, joined}
 use Rattle.table_rule.proofs.Lookups.{get_std, get_set, get_set_same}
 use Rattle.table_rule.proofs.TellingLaw.{tells_in_use}
@@ -26,23 +28,28 @@ use Rattle.table_rule.proofs.Joining.{joins}
 pub numbers_allowed : (p : Layout) (models : List Content) (slots seat : ℕ) (me : Me ℕ SeatView)
     (n : ℕ) → me.0.right ≡ true → me.0.numbers ≡ [] → me.0.next ≡ n → n < 64
     → Allows (IsRuled p models) slots seat me 0 (λ _. 1 + n)
-    (λ _ m. (m.1 ≡ me.1) × TellsInUse m.0 × (m.0 ≡ seat_numbered me.0))
+    (λ _ m. (m.1 ≡ me.1) × FactsInUse m.0 × (m.0 ≡ seat_numbered me.0))
 numbers_allowed p models slots seat me n right bare next low s r deep at fits =
     let at' = get_std s.views seat me.0 at in
     let v = me.0 in
     let w : SeatView = seat_numbered v in
-    let old : Spot → ℕ = word_at p s.words in
-    let new : Spot → ℕ = word_at p (set s.words 0 (1 + n)) in
+    let old : WordId → ℕ = word_at p s.words in
+    let new : WordId → ℕ = word_at p (set s.words 0 (1 + n)) in
     let wrote : Wrote old Sessions (1 + v.next) new =
     subst (λ (k : ℕ). Wrote old Sessions (1 + k) new) (sym next)
-    (row_written p s.words Sessions (1 + n) r.wide tt) in
+    (row_said p s.words Sessions (1 + n) r.wide tt) in
     let rule =
     (numbers_itself p models old new s.views seat v r.rule at' right bare
     (subst (λ (k : ℕ). k < 64) (sym next) low) wrote).0 in (
       w,
       keeps,
       tt,
-      record { wide = length-set s.words 0 (1 + n) ∙ r.wide; rule = rule },
+      record {
+        wide = length-set s.words 0 (1 + n) ∙ r.wide;
+        rule = rule;
+        tagged = tags_outside p (stored_at p s.words) (stored_at p (set s.words 0 (1 + n))) Sessions
+            (1 + n) tt (row_written p s.words Sessions (1 + n) r.wide tt) r.tagged;
+      },
       (
         refl,
         tells_in_use p models new (set s.views seat w) seat w rule
@@ -57,6 +64,7 @@ deals_allowed p models seat v right has s r at = record {
   wide = r.wide;
   rule = deals p models (word_at p s.words) s.views seat v r.rule (get_std s.views seat v at)
       right has;
+  tagged = r.tagged;
 }
 
 pub joins_allowed : (p : Layout) (models : List Content) (seat : ℕ) (v : SeatView) (other : ℕ)
@@ -72,11 +80,12 @@ joins_allowed p models seat v other w bare idle calm s r at apart there =
       wide = r.wide;
       rule = joins p models (word_at p s.words) s.views seat other v w r.rule
           (get_std s.views seat v at) at_other apart bare idle calm;
+      tagged = r.tagged;
     }
 
 -- a view that holds nothing and has seen no record tells little
 pub nothing_tells : (v : SeatView) (side : ℕ) → v.held ≡ [] → v.log ≡ log_starting side
-    → ViewTells v
+    → ViewFacts v
 nothing_tells v side none new = record {
   trees = record { each = λ t h. no t h; named = λ t u h k e. unreached t h };
   canonical = record { each = λ t n h e. no t h };

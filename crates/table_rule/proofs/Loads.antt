@@ -8,18 +8,18 @@ use Rattle.node_words.specs.shapes.Tree.{Tree, root_of}
 use Rattle.node_words.specs.Held.{IsReached, Wanted}
 use Rattle.node_words.specs.Plans.{Layout}
 use Rattle.core_laws.specs.places.Names.{named}
-use Rattle.core_laws.specs.places.Spots.{Spot, LogTurn, LogLength, Version, Sessions, Book, key_words}
+use Rattle.core_laws.specs.places.WordIds.{WordId, LogTurn, LogLength, Version, Sessions, Book, key_words}
 use Rattle.core_laws.specs.Events.{EntriesStay, Rests}
 use Rattle.node_words.specs.Enough.{HasEnough}
 use Rattle.core_laws.proofs.Enough.{enough}
 use Rattle.table_rule.specs.Reading.{Wrote, book_of}
 use Rattle.table_rule.proofs.Readings.{readies_key}
-use Rattle.table_rule.specs.Views.{SeatView, BucketAt, bucket_of, key_spot, known_at, names_held}
-use Rattle.table_rule.specs.Turning.{IsOf}
+use Rattle.table_rule.specs.Views.{SeatView, BucketAt, bucket_of, key_word_id, known_at, names_held}
+use Rattle.table_rule.specs.TurnRules.{IsOf}
 use Rattle.table_rule.specs.Knowing.{all_made}
 use Rattle.table_rule.specs.LogWords.{log_in}
 use Rattle.table_rule.specs.Rules.{KeepsRule, table_state, MayWrite}
-use Rattle.table_rule.specs.Telling.{tree_word}
+use Rattle.table_rule.specs.ViewFacts.{tree_word}
 use Rattle.table_rule.proofs.PartA.{word_step, same_step, same_seat}
 use Rattle.table_rule.proofs.PartC.{made_grows}
 use Rattle.table_rule.specs.Owing.{ViewGrew}
@@ -31,21 +31,21 @@ use Rattle.table_rule.specs.Changes.{knowing, meeting, IsFullIn}
 use Rattle.table_rule.proofs.TurnSteps.{same_session, nothing_written}
 use Rattle.table_rule.proofs.Unused.{unused_else}
 
-pub entries_rest : (p : Layout) (mem : Spot → ℕ) (views after : List SeatView)
+pub entries_rest : (p : Layout) (mem : WordId → ℕ) (views after : List SeatView)
     → EntriesStay p (table_state p mem views) (table_state p mem after)
 entries_rest p mem views after = record { book = λ m is. refl; key = λ m live. refl }
 
-pub log_rests : (mem : Spot → ℕ) → LogStays mem mem
+pub log_rests : (mem : WordId → ℕ) → LogStays mem mem
 log_rests mem = record { turn = refl; length = refl; version = λ v i. refl }
 
 -- a word is loaded under its turn
-pub looks : (p : Layout) (seat : ℕ) (v : SeatView) (b : BucketAt) (x : Spot) → v.turn ≡ Some b
+pub looks : (p : Layout) (seat : ℕ) (v : SeatView) (b : BucketAt) (x : WordId) → v.turn ≡ Some b
     → IsOf b x → MayWrite p seat v x (λ k. k) (Rests p)
     (λ k w. (w ≡ knowing v x k) × ((n : ℕ) → known_at x v.words ≡ Some n → k ≡ n))
 looks p seat v b x has of models old views r at =
     let w : SeatView = knowing v x (old x) in
     let after : List SeatView = set views seat w in
-    let both : (new : Spot → ℕ) → Wrote old x (old x) new → KeepsRule p models new after
+    let both : (new : WordId → ℕ) → Wrote old x (old x) new → KeepsRule p models new after
     × Rests p (table_state p old views) (table_state p new after) =
     λ new wrote. subst (λ m. KeepsRule p models m after
     × Rests p (table_state p old views) (table_state p m after)) (sym (same_mem old new x wrote))
@@ -65,15 +65,15 @@ looks p seat v b x has of models old views r at =
 -- a key word of a free entry is stored
 pub readies : (p : Layout) (seat : ℕ) (v : SeatView) (n : Name) (i k : ℕ)
     → v.turn ≡ Some (bucket_of n) → known_at (book_of n) v.words ≡ Some 0
-    → MayWrite p seat v (key_spot n i) (λ _. k) (Rests p) (λ _ w. w ≡ knowing v (key_spot n i) k)
+    → MayWrite p seat v (key_word_id n i) (λ _. k) (Rests p) (λ _ w. w ≡ knowing v (key_word_id n i) k)
 readies p seat v n i k has free models old views r at =
-    let x : Spot = key_spot n i in
+    let x : WordId = key_word_id n i in
     let w : SeatView = knowing v x k in
     let b : BucketAt = bucket_of n in
     let none : old (book_of n) ≡ 0 =
     r.turns.known seat v at b (book_of n) 0 has (refl, refl) free in
     let after : List SeatView = set views seat w in
-    let both : (new : Spot → ℕ) → Wrote old x k new → KeepsRule p models new after
+    let both : (new : WordId → ℕ) → Wrote old x k new → KeepsRule p models new after
     × Rests p (table_state p old views) (table_state p new after) =
     λ new wrote. quiet p models old new views seat v w r at
     (readies_key p (log_in p) old new (map names_held views)
@@ -107,7 +107,7 @@ contains_new P x xs y has c = go c.0 c.1 c.2
     go (suc k) lt e = inl (k, omega arith, e)
 
 -- a bucket whose slots are known to have books has enough shapes that were made
-full_enough : (p : Layout) (models : List Content) (old : Spot → ℕ) (views : List SeatView)
+full_enough : (p : Layout) (models : List Content) (old : WordId → ℕ) (views : List SeatView)
     (seat : ℕ) (v w : SeatView) (b : BucketAt) → KeepsRule p models old views
     → slice_get views seat ≡ Some v → v.turn ≡ Some b → IsFullIn v.words b p.cap → ViewGrew v w
     → HasEnough p (all_made (set views seat w)) b.level b.bucket
@@ -127,7 +127,7 @@ full_enough p models old views seat v w b r at has full grew =
     })))
 
 -- a load shows a full bucket
-pub meets : (p : Layout) (seat : ℕ) (v : SeatView) (b : BucketAt) (x : Spot) (m : Wanted)
+pub meets : (p : Layout) (seat : ℕ) (v : SeatView) (b : BucketAt) (x : WordId) (m : Wanted)
     → v.turn ≡ Some b → IsFullIn v.words b p.cap → m.level ≡ b.level → m.bucket ≡ b.bucket
     → MayWrite p seat v x (λ k. k) (Rests p) (λ k w. w ≡ meeting v m)
 meets p seat v b x m has full level bucket models old views r at =
@@ -138,7 +138,7 @@ meets p seat v b x m has full level bucket models old views r at =
     let of_m : HasEnough p (all_made after) m.level m.bucket =
     subst (λ (z : ℕ × ℕ). HasEnough p (all_made after) z.0 z.1)
     (λ i. (sym level i, sym bucket i)) all in
-    let both : (new : Spot → ℕ) → Wrote old x (old x) new → KeepsRule p models new after
+    let both : (new : WordId → ℕ) → Wrote old x (old x) new → KeepsRule p models new after
     × Rests p (table_state p old views) (table_state p new after) =
     λ new wrote. subst (λ k. KeepsRule p models k after
     × Rests p (table_state p old views) (table_state p k after)) (sym (same_mem old new x wrote))
@@ -159,13 +159,13 @@ meets p seat v b x m has full level bucket models old views r at =
 -- a key word of a name that is reached is that of its tree; no turn is needed
 pub peeks : (p : Layout) (seat : ℕ) (v : SeatView) (t : Tree) (n : Name) (i : ℕ)
     → IsReached v.held t → root_of t ≡ Some n → i < key_words n.level
-    → MayWrite p seat v (key_spot n i) (λ k. k) (Rests p) (λ k w. (w ≡ v) × (k ≡ tree_word t i))
+    → MayWrite p seat v (key_word_id n i) (λ k. k) (Rests p) (λ k w. (w ≡ v) × (k ≡ tree_word t i))
 peeks p seat v t n i h e lt models old views r at = record {
   view = v;
   rule = λ new wrote.
-      (nothing_written p models old new views seat v (key_spot n i) r at wrote).0;
+      (nothing_written p models old new views seat v (key_word_id n i) r at wrote).0;
   event = λ new wrote.
-      (nothing_written p models old new views seat v (key_spot n i) r at wrote).1;
+      (nothing_written p models old new views seat v (key_word_id n i) r at wrote).1;
   same = same_session v;
   told = (refl, reached_word p models old views seat v r at t n i h e lt);
 }

@@ -2,15 +2,15 @@
 use Rattle.std.proofs.Common.{◌≡◌, ℕ, true, Some, List, [], set, refl, sym, ap, ◌∙◌, subst, arith}
 use Rattle.std.specs.List.{slice_get, Contains}
 use Rattle.node_words.specs.Plans.{Layout}
-use Rattle.core_laws.specs.places.Spots.{Spot, Sessions, LogTurn, LogLength, Version}
+use Rattle.core_laws.specs.places.WordIds.{WordId, Sessions, LogTurn, LogLength, Version}
 use Rattle.retain.specs.Logs.{Log}
 use Rattle.table_rule.specs.LogKnowing.{IsPrefix, ListsOwn, OwnsIn, WasFound, KnowsLog}
-use Rattle.table_rule.specs.LogTurning.{IsOfLog, KeepsLogTurn}
+use Rattle.table_rule.specs.LogTurnRules.{IsOfLog, KeepsLogTurn}
 use Rattle.table_rule.specs.LogViews.{LogView}
 use Rattle.retain.specs.Listing.{Found}
 use Rattle.table_rule.specs.LogWords.{log_in}
 use Rattle.table_rule.specs.Rules.{KeepsLog}
-use Rattle.table_rule.specs.Turning.{IsTurnWord}
+use Rattle.table_rule.specs.TurnRules.{IsTurnWord}
 use Rattle.table_rule.specs.Views.{SeatView, known_at}
 use Rattle.table_rule.proofs.Lookups.{each}
 use Rattle.table_rule.proofs.LogReading.{LogStays, log_same, written_same}
@@ -25,12 +25,12 @@ pub same_log : (v w : SeatView) → w.numbers ≡ v.numbers → w.log ≡ v.log 
 same_log v w numbers log = record { numbers = numbers; log = log }
 
 -- a word of the log is as before
-pub log_word : (old new : Spot → ℕ) (x : Spot) → LogStays old new → IsOfLog x → new x ≡ old x
+pub log_word : (old new : WordId → ℕ) (x : WordId) → LogStays old new → IsOfLog x → new x ≡ old x
 log_word old new LogLength l of = l.length
 log_word old new (Version v i) l of = l.version v i
 log_word old new _ l of = absurd of
 
-module _ (p : Layout) (old new : Spot → ℕ) (views : List SeatView) (seat : ℕ) (v w : SeatView)
+module _ (p : Layout) (old new : WordId → ℕ) (views : List SeatView) (seat : ℕ) (v w : SeatView)
     (at : slice_get views seat ≡ Some v) (stays : LogStays old new)
     (sessions : new Sessions ≡ old Sessions) (same : SameLog v w) where
   -- what holds of the seat's view of the log holds of it still
@@ -50,7 +50,7 @@ module _ (p : Layout) (old new : Spot → ℕ) (views : List SeatView) (seat : �
         (λ j d _ e m. a.back j d e (remarked d d _ _ refl (sym stays.turn) m));
     named = (let n = a.named in let t = stays.turn in let s = sessions in omega arith);
     known = each
-        (λ i d. (x : Spot) (n : ℕ) → d.log.turn ≡ true → IsOfLog x
+        (λ i d. (x : WordId) (n : ℕ) → d.log.turn ≡ true → IsOfLog x
         → known_at x d.log.words ≡ Some n → new x ≡ n) views seat w
         (λ x n h of l. log_word old new x stays of
         ∙ a.known seat v at x n (ap (λ (u : LogView). u.turn) (sym same.log) ∙ h) of

@@ -4,7 +4,7 @@ use Rattle.std.specs.List.{slice_get, Contains}
 use Rattle.std.proofs.lemmas.List.Elements.{All-contains}
 use Rattle.vox_read.specs.Contents.{Content}
 use Rattle.node_words.specs.Plans.{Layout}
-use Rattle.core_laws.specs.places.Spots.{Spot, Sessions, LogLength, Version, versions}
+use Rattle.core_laws.specs.places.WordIds.{WordId, Sessions, LogLength, Version, versions}
 use Rattle.history_model.specs.Logs.{Log}
 use Rattle.history_model.specs.declared.histories.Mark.{Mark}
 use Rattle.history_model.specs.declared.histories.Record.{Record}
@@ -12,8 +12,8 @@ use Rattle.core_laws.specs.contents.Versions.{IsUnmarked}
 use Rattle.core_laws.specs.Events.{EntriesStay, Rests}
 use Rattle.table_rule.specs.Reading.{Wrote}
 use Rattle.table_rule.specs.LogKnowing.{WasFound}
-use Rattle.table_rule.specs.LogTelling.{number_seen, SeesAll}
-use Rattle.table_rule.specs.LogTurning.{IsOfLog}
+use Rattle.table_rule.specs.LogFacts.{number_seen, SeesAll}
+use Rattle.table_rule.specs.LogTurnRules.{IsOfLog}
 use Rattle.table_rule.specs.LogViews.{LogView}
 use Rattle.retain.specs.Listing.{Found}
 use Rattle.table_rule.specs.LogWords.{log_in, records_in, record_of_words, word_in, mark_of_words, marks_in}
@@ -33,16 +33,16 @@ use Rattle.table_rule.proofs.MarkLists.{begins_mark, own_mark_more, with_new}
 abbrev pub with_log : SeatView → LogView → SeatView
 with_log v l = record v { log = l }
 
-entries_rest : (p : Layout) (mem : Spot → ℕ) (views after : List SeatView)
+entries_rest : (p : Layout) (mem : WordId → ℕ) (views after : List SeatView)
     → EntriesStay p (table_state p mem views) (table_state p mem after)
 entries_rest p mem views after = record { book = λ m is. refl; key = λ m live. refl }
 
 -- a word is loaded: the rule where the seat then knows this of the log
-pub loaded : (p : Layout) (models : List Content) (old : Spot → ℕ) (views : List SeatView)
-    (seat : ℕ) (v : SeatView) (x : Spot) (l : LogView) → KeepsRule p models old views
+pub loaded : (p : Layout) (models : List Content) (old : WordId → ℕ) (views : List SeatView)
+    (seat : ℕ) (v : SeatView) (x : WordId) (l : LogView) → KeepsRule p models old views
     → slice_get views seat ≡ Some v → v.log.turn ≡ true → IsOfLog x → l.turn ≡ v.log.turn
     → l.words ≡ (x, old x) ∷ v.log.words → SeatKnows (log_in p old) v.numbers l
-    → (new : Spot → ℕ) → Wrote old x (old x) new
+    → (new : WordId → ℕ) → Wrote old x (old x) new
     → KeepsRule p models new (set views seat (with_log v l))
     × Rests p (table_state p old views) (table_state p new (set views seat (with_log v l)))
 loaded p models old views seat v x l r at has of turn words knows new wrote =
@@ -64,7 +64,7 @@ loaded p models old views seat v x l r at has of turn words knows new wrote =
     refl refl refl refl refl (λ m h. inl h))
 
 -- a word of the log is loaded under its turn
-pub loads_log : (p : Layout) (seat : ℕ) (v : SeatView) (x : Spot) → v.log.turn ≡ true → IsOfLog x
+pub loads_log : (p : Layout) (seat : ℕ) (v : SeatView) (x : WordId) → v.log.turn ≡ true → IsOfLog x
     → MayWrite p seat v x (λ k. k) (Rests p)
     (λ k w. (w ≡ log_knowing v x k) × ((n : ℕ) → known_at x v.log.words ≡ Some n → k ≡ n))
 loads_log p seat v x has of models old views r at =
@@ -94,7 +94,7 @@ pub sees_next : (p : Layout) (seat : ℕ) (v : SeatView) (long : ℕ) → v.log.
     (λ k w. SawNext v k w)
 sees_next p seat v long has length_known more known models old views r at =
     let n : ℕ = number_seen v in
-    let x : Spot = Version (suc n) 4 in
+    let x : WordId = Version (suc n) 4 in
     let change : Record = record_of_words (word_in old (suc n)) in
     let l : LogView = record v.log {
       words = (x, old x) ∷ v.log.words;
@@ -168,7 +168,7 @@ sought_some v u zero at e = absurd (omega arith)
 sought_some v u (suc k) at e = refl
 
 -- the mark of a version stands in the log
-pub marked_there : (p : Layout) (models : List Content) (mem : Spot → ℕ) (views : List SeatView)
+pub marked_there : (p : Layout) (models : List Content) (mem : WordId → ℕ) (views : List SeatView)
     (u at : ℕ) → KeepsRule p models mem views → u < versions → mem (Version u 6) ≡ suc at
     → Contains (marks_in mem versions) (mark_of_words u at (mem (Version u 7)))
     × ((u < at) × (at ≤ mem LogLength))
@@ -189,7 +189,7 @@ pub seeks_mark : (p : Layout) (seat : ℕ) (v : SeatView) (u : ℕ) → SeesAll 
     × (at ≤ number_seen v))
     × ((n : ℕ) → known_at (Version u 6) v.log.words ≡ Some n → k ≡ n))
 seeks_mark p seat v u sees low models old views r at =
-    let x : Spot = Version u 6 in
+    let x : WordId = Version u 6 in
     let l : LogView = sought v u (old x) in
     let k = one_knows (old Sessions) (log_in p old) views seat v r.log.knows at in
     let le = seen_le p models old views seat v r at in
@@ -228,7 +228,7 @@ pub sees_mark : (p : Layout) (seat : ℕ) (v : SeatView) (u at : ℕ) → v.log.
     × Contains w.log.seen.marks (mark_of_words u at k)
     × ((n : ℕ) → known_at (Version u 7) v.log.words ≡ Some n → k ≡ n))
 sees_mark p seat v u when has low known models old views r at =
-    let x : Spot = Version u 7 in
+    let x : WordId = Version u 7 in
     let m : Mark = mark_of_words u when (old x) in
     let l : LogView = (with_seen_mark (log_knowing v x (old x)) m).log in
     let k = one_knows (old Sessions) (log_in p old) views seat v r.log.knows at in

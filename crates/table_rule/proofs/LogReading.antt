@@ -7,13 +7,13 @@ use Rattle.std.proofs.lemmas.List.{take-append-le, take_all}
 use Rattle.std.proofs.lemmas.List.Elements.{Contains-append_left, Contains-append_right, Contains-append_cases}
 use Rattle.core_laws.specs.contents.Versions.{IsUnmarked}
 use Rattle.node_words.specs.Plans.{Layout}
-use Rattle.core_laws.specs.places.Spots.{Spot, LogTurn, LogLength, Version, versions}
+use Rattle.core_laws.specs.places.WordIds.{WordId, LogTurn, LogLength, Version, versions}
 use Rattle.retain.specs.Mark.{Mark}
 use Rattle.retain.specs.Packing.{log_words}
 use Rattle.table_rule.specs.LogWords.{record_of_words, word_in, mark_of_words, records_in, if_marked, marks_in, log_in, act_of_words, IsLogWritten}
 
 -- the words of the log are as before
-pub record LogStays (old new : Spot → ℕ) : Type 0 where
+pub record LogStays (old new : WordId → ℕ) : Type 0 where
   pub turn : new LogTurn ≡ old LogTurn
   pub length : new LogLength ≡ old LogLength
   pub version : (v i : ℕ) → new (Version v i) ≡ old (Version v i)
@@ -31,7 +31,7 @@ record_same a b same =
     }
 
 -- the first records, by the first five words of each
-pub records_kept : (old new : Spot → ℕ) (n : ℕ)
+pub records_kept : (old new : WordId → ℕ) (n : ℕ)
     → ((v i : ℕ) → v < n → i < 5 → new (Version (suc v) i) ≡ old (Version (suc v) i))
     → records_in new n ≡ records_in old n
 unfolding records_in
@@ -49,7 +49,7 @@ mark_same v (suc at) who who' same =
     ap (λ (k : ℕ). mark_of_words v at k ∷ []) (same (λ e. omega arith))
 
 -- the marks of the first versions, by the last two words of each
-pub marks_kept : (old new : Spot → ℕ) (n : ℕ)
+pub marks_kept : (old new : WordId → ℕ) (n : ℕ)
     → ((v : ℕ) → v < n → new (Version v 6) ≡ old (Version v 6))
     → ((v : ℕ) → v < n → old (Version v 6) ≢ 0 → new (Version v 7) ≡ old (Version v 7))
     → marks_in new n ≡ marks_in old n
@@ -66,7 +66,7 @@ marks_kept old new (suc n) mark who =
     λ j. more j ++ last j
 
 -- the words of the log alone tell the log
-pub log_reads : (p : Layout) (old new : Spot → ℕ) → new LogLength ≡ old LogLength
+pub log_reads : (p : Layout) (old new : WordId → ℕ) → new LogLength ≡ old LogLength
     → ((v i : ℕ) → new (Version v i) ≡ old (Version v i)) → log_in p new ≡ log_in p old
 log_reads p old new long version =
     let records : records_in new (new LogLength) ≡ records_in old (old LogLength) =
@@ -76,11 +76,11 @@ log_reads p old new long version =
     marks_kept old new versions (λ v lt. version v 6) (λ v lt ne. version v 7) in
     λ j. record { side = p.side; coloured = false; records = records j; marks = marks j }
 
-pub log_same : (p : Layout) (old new : Spot → ℕ) → LogStays old new → log_in p new ≡ log_in p old
+pub log_same : (p : Layout) (old new : WordId → ℕ) → LogStays old new → log_in p new ≡ log_in p old
 log_same p old new l = log_reads p old new l.length l.version
 
 -- each record's words are those that a log keeps of it still
-pub written_stays : (old new : Spot → ℕ) (n : ℕ)
+pub written_stays : (old new : WordId → ℕ) (n : ℕ)
     → ((v i : ℕ) → v < n → i < 5 → new (Version (suc v) i) ≡ old (Version (suc v) i))
     → ((v i : ℕ) → v < n → i < 5 → old (Version (suc v) i) ≡ slice_index
     (log_words (records_in old (suc v)) (record_of_words (word_in old (suc v)))) i)
@@ -92,7 +92,7 @@ written_stays old new n same written v i lt low =
     record_same (word_in new (suc v)) (word_in old (suc v)) (λ k few. same v k lt few) in
     same v i lt low ∙ written v i lt low ∙ (λ j. slice_index (log_words (sym rs j) (sym r j)) i)
 
-pub written_reads : (old new : Spot → ℕ) → new LogLength ≡ old LogLength
+pub written_reads : (old new : WordId → ℕ) → new LogLength ≡ old LogLength
     → ((v i : ℕ) → new (Version v i) ≡ old (Version v i)) → IsLogWritten old → IsLogWritten new
 written_reads old new long version w = record {
   words = λ n i lt low.
@@ -100,16 +100,16 @@ written_reads old new long version w = record {
       (λ v k less few. w.words v k less few) n i (subst (λ (k : ℕ). n < k) long lt) low;
 }
 
-pub written_same : (old new : Spot → ℕ) → LogStays old new → IsLogWritten old → IsLogWritten new
+pub written_same : (old new : WordId → ℕ) → LogStays old new → IsLogWritten old → IsLogWritten new
 written_same old new l w = written_reads old new l.length l.version w
 
-pub records_suc : (mem : Spot → ℕ) (n : ℕ)
+pub records_suc : (mem : WordId → ℕ) (n : ℕ)
     → records_in mem (suc n) ≡ records_in mem n ++ record_of_words (word_in mem (suc n)) ∷ []
 unfolding records_in
 records_suc mem n = refl
 
 -- as many records are read as are asked for, each of them from its version
-pub length_records : (mem : Spot → ℕ) (n : ℕ) → length (records_in mem n) ≡ n
+pub length_records : (mem : WordId → ℕ) (n : ℕ) → length (records_in mem n) ≡ n
 unfolding records_in
 length_records mem zero = refl
 length_records mem (suc n) =
@@ -117,7 +117,7 @@ length_records mem (suc n) =
     let all = length-append (records_in mem n) (record_of_words (word_in mem (suc n)) ∷ []) in
     omega arith
 
-pub take_records : (mem : Spot → ℕ) (k n : ℕ) → k ≤ n → take k (records_in mem n) ≡ records_in mem k
+pub take_records : (mem : WordId → ℕ) (k n : ℕ) → k ≤ n → take k (records_in mem n) ≡ records_in mem k
 unfolding records_in
 take_records mem zero n le = refl
 take_records mem (suc k) zero le = absurd (omega arith)
@@ -143,7 +143,7 @@ get_before [] ys k lt = absurd (omega arith)
 get_before (x ∷ xs) ys zero lt = refl
 get_before (x ∷ xs) ys (suc k) lt = get_before xs ys k (omega arith)
 
-pub get_record : (mem : Spot → ℕ) (k n : ℕ) → k < n
+pub get_record : (mem : WordId → ℕ) (k n : ℕ) → k < n
     → slice_get (records_in mem n) k ≡ Some (record_of_words (word_in mem (suc k)))
 unfolding records_in
 get_record mem k zero lt = absurd (omega arith)
@@ -159,18 +159,18 @@ get_record mem k (suc n) lt =
           get_before (records_in mem n) last k (omega arith) ∙ get_record mem k n (omega arith)
     ]
 
-pub marks_suc : (mem : Spot → ℕ) (v : ℕ) → marks_in mem (suc v)
+pub marks_suc : (mem : WordId → ℕ) (v : ℕ) → marks_in mem (suc v)
     ≡ marks_in mem v ++ if_marked v (mem (Version v 6)) (mem (Version v 7))
 unfolding marks_in
 marks_suc mem v = refl
 
 -- the mark of a version stands in the list just where its word isn't 0
-pub record MarkRead (mem : Spot → ℕ) (n : ℕ) (m : Mark) : Type 0 where
+pub record MarkRead (mem : WordId → ℕ) (n : ℕ) (m : Mark) : Type 0 where
   pub below : m.version < n
   pub word : mem (Version m.version 6) ≡ suc m.at
   pub is : m ≡ mark_of_words m.version m.at (mem (Version m.version 7))
 
-read_one : (mem : Spot → ℕ) (v : ℕ) (m : Mark) (word : ℕ) → mem (Version v 6) ≡ word
+read_one : (mem : WordId → ℕ) (v : ℕ) (m : Mark) (word : ℕ) → mem (Version v 6) ≡ word
     → Contains (if_marked v word (mem (Version v 7))) m → MarkRead mem (suc v) m
 read_one mem v m zero e c = absurd (let k = c.1 in omega arith)
 read_one mem v m (suc at) e c = go c.0 c.1 c.2
@@ -182,7 +182,7 @@ read_one mem v m (suc at) e c = go c.0 c.1 c.2
         (record { below = omega arith; word = e; is = refl })
     go (suc k) lt same = absurd (omega arith)
 
-pub mark_read : (mem : Spot → ℕ) (n : ℕ) (m : Mark) → Contains (marks_in mem n) m → MarkRead mem n m
+pub mark_read : (mem : WordId → ℕ) (n : ℕ) (m : Mark) → Contains (marks_in mem n) m → MarkRead mem n m
 unfolding marks_in
 mark_read mem zero m c = absurd (let k = c.1 in omega arith)
 mark_read mem (suc n) m c = ⊎_elim
@@ -191,7 +191,7 @@ mark_read mem (suc n) m c = ⊎_elim
     (λ r. read_one mem n m (mem (Version n 6)) refl r)
     (Contains-append_cases (marks_in mem n) _ m c)
 
-pub mark_stands : (mem : Spot → ℕ) (n v at : ℕ) → v < n → mem (Version v 6) ≡ suc at
+pub mark_stands : (mem : WordId → ℕ) (n v at : ℕ) → v < n → mem (Version v 6) ≡ suc at
     → Contains (marks_in mem n) (mark_of_words v at (mem (Version v 7)))
 unfolding marks_in
 mark_stands mem zero v at lt e = absurd (omega arith)
@@ -208,7 +208,7 @@ mark_stands mem (suc n) v at lt e = elim (cases_eq v n) [
 ]
 
 -- a version whose word is 0 has no mark
-pub no_mark : (mem : Spot → ℕ) (n v : ℕ) → mem (Version v 6) ≡ 0 → IsUnmarked (marks_in mem n) v
+pub no_mark : (mem : WordId → ℕ) (n v : ℕ) → mem (Version v 6) ≡ 0 → IsUnmarked (marks_in mem n) v
 no_mark mem n v none k d lt same =
     let m : Mark = get_or (marks_in mem n) k d in
     let r = mark_read mem n m (k, lt, again (marks_in mem n) k d lt) in
@@ -221,14 +221,14 @@ no_mark mem n v none k d lt same =
     again (x ∷ xs) (suc k) d lt = again xs k d (omega arith)
 
 -- a table of words that are 0 has the empty log
-pub empty_marks : (mem : Spot → ℕ) (n : ℕ) → ((x : Spot) → mem x ≡ 0) → marks_in mem n ≡ []
+pub empty_marks : (mem : WordId → ℕ) (n : ℕ) → ((x : WordId) → mem x ≡ 0) → marks_in mem n ≡ []
 unfolding marks_in
 empty_marks mem zero none = refl
 empty_marks mem (suc n) none =
     let more = empty_marks mem n none in let six = none (Version n 6) in
     λ i. more i ++ if_marked n (six i) (mem (Version n 7))
 
-pub empty_log : (p : Layout) (mem : Spot → ℕ) → ((x : Spot) → mem x ≡ 0)
+pub empty_log : (p : Layout) (mem : WordId → ℕ) → ((x : WordId) → mem x ≡ 0)
     → log_in p mem ≡ record { side = p.side; coloured = false; records = []; marks = [] }
 unfolding records_in
 empty_log p mem none =

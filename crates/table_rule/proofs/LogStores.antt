@@ -7,16 +7,16 @@ use Rattle.vox_read.specs.Contents.{Content}
 use Rattle.node_words.specs.declared.shapes.names.Name.{Name}
 use Rattle.node_words.specs.Plans.{Layout}
 use Rattle.core_laws.specs.places.KeyWords.{child_of_word}
-use Rattle.core_laws.specs.places.Spots.{Spot, Sessions, LogLength, Version, versions}
+use Rattle.core_laws.specs.places.WordIds.{WordId, Sessions, LogLength, Version, versions}
 use Rattle.history_model.specs.Logs.{Log}
 use Rattle.core_laws.specs.contents.Aligned.{top}
 use Rattle.core_laws.specs.Events.{RootsStay, Rests}
-use Rattle.table_rule.specs.Reading.{Wrote, kept_root}
+use Rattle.table_rule.specs.Reading.{Wrote, root_if_held}
 use Rattle.table_rule.specs.LogKnowing.{KnowsLog}
-use Rattle.table_rule.specs.LogTelling.{number_seen, SeesAll}
+use Rattle.table_rule.specs.LogFacts.{number_seen, SeesAll}
 use Rattle.table_rule.specs.LogWords.{log_in, records_in}
 use Rattle.table_rule.specs.Rules.{KeepsRule, table_state, MayWrite}
-use Rattle.table_rule.specs.Turning.{turn_of}
+use Rattle.table_rule.specs.TurnRules.{turn_of}
 use Rattle.table_rule.specs.Views.{SeatView, known_at}
 use Rattle.table_rule.proofs.LogPartA.{log_word_step, of_log_not_bucket_turn, not_of_log}
 use Rattle.table_rule.proofs.LogPartC.{one_knows, knows_set}
@@ -26,11 +26,11 @@ use Rattle.table_rule.proofs.StateSteps.{quiet_log, entries_same}
 use Rattle.table_rule.specs.LogChanges.{log_knowing}
 
 -- which version's word, and which of its words
-pub version_in : Spot → ℕ
+pub version_in : WordId → ℕ
 version_in (Version v i) = v
 version_in _ = 0
 
-pub word_no : Spot → ℕ
+pub word_no : WordId → ℕ
 word_no (Version v i) = i
 word_no _ = 0
 
@@ -44,17 +44,17 @@ same_word u v i k e = ap word_no e
 
 -- past the length there is no root
 pub no_root_past : (long u mark mark' : ℕ) (root root' : Option Name) → long < u
-    → kept_root (nat_lt long u) mark root ≡ kept_root (nat_lt long u) mark' root'
+    → root_if_held (nat_lt long u) mark root ≡ root_if_held (nat_lt long u) mark' root'
 no_root_past long u mark mark' root root' lt =
-    ap (λ (b : Bool). kept_root b mark root) (lt-ltb long u lt)
-    ∙ sym (ap (λ (b : Bool). kept_root b mark' root') (lt-ltb long u lt))
+    ap (λ (b : Bool). root_if_held b mark root) (lt-ltb long u lt)
+    ∙ sym (ap (λ (b : Bool). root_if_held b mark' root') (lt-ltb long u lt))
 
 -- a word of a version is stored, and the log stays
-module _ (p : Layout) (models : List Content) (old new : Spot → ℕ) (views : List SeatView)
+module _ (p : Layout) (models : List Content) (old new : WordId → ℕ) (views : List SeatView)
     (seat : ℕ) (v : SeatView) (r : KeepsRule p models old views)
     (at : slice_get views seat ≡ Some v) (u i n : ℕ) (has : v.log.turn ≡ true)
     (wrote : Wrote old (Version u i) n new) where
-  abbrev x : Spot
+  abbrev x : WordId
   x = Version u i
 
   abbrev w : SeatView
@@ -115,11 +115,11 @@ pub readies_next : (p : Layout) (seat : ℕ) (v : SeatView) (i word : ℕ) → S
     (λ k w. w ≡ log_knowing v (Version (suc (number_seen v)) i) word)
 readies_next p seat v i word sees low models old views r at =
     let n : ℕ = number_seen v in
-    let x : Spot = Version (suc n) i in
+    let x : WordId = Version (suc n) i in
     let w : SeatView = log_knowing v x word in
     let all : old LogLength ≡ n =
     r.log.turn.known seat v at LogLength n sees.turn tt sees.known in
-    let both : (new : Spot → ℕ) → Wrote old x word new
+    let both : (new : WordId → ℕ) → Wrote old x word new
     → KeepsRule p models new (set views seat w)
     × Rests p (table_state p old views) (table_state p new (set views seat w)) =
     λ new wrote. stored p models old new views seat v r at (suc n) i word sees.turn wrote
@@ -138,18 +138,18 @@ readies_next p seat v i word sees low models old views r at =
       told = refl;
     }
   where
-    next_roots : (old new : Spot → ℕ) (u n i word : ℕ) → Wrote old (Version (suc n) i) word new
+    next_roots : (old new : WordId → ℕ) (u n i word : ℕ) → Wrote old (Version (suc n) i) word new
         → old LogLength ≡ n → i < 6 → (level : ℕ)
-        → kept_root (nat_lt (new LogLength) u) (new (Version u 6))
+        → root_if_held (nat_lt (new LogLength) u) (new (Version u 6))
         (child_of_word level (new (Version u 5)))
-        ≡ kept_root (nat_lt (old LogLength) u) (old (Version u 6))
+        ≡ root_if_held (nat_lt (old LogLength) u) (old (Version u 6))
         (child_of_word level (old (Version u 5)))
     next_roots old new u n i word wrote all low level =
         let long : new LogLength ≡ old LogLength =
         wrote.others LogLength (λ e. (let no : ⊥ = cc in no)) in
         elim (cases_eq u (suc n)) [
           | inl same ↦
-              ap (λ (m : ℕ). kept_root (nat_lt m u) (new (Version u 6))
+              ap (λ (m : ℕ). root_if_held (nat_lt m u) (new (Version u 6))
               (child_of_word level (new (Version u 5)))) long
               ∙ no_root_past (old LogLength) u _ _ _ _ (omega arith)
           | inr other ↦
@@ -157,7 +157,7 @@ readies_next p seat v i word sees low models old views r at =
               (λ e. other (same_version u (suc n) 6 i e)) in
               let five = wrote.others (Version u 5)
               (λ e. other (same_version u (suc n) 5 i e)) in
-              λ j. kept_root (nat_lt (long j) u) (six j) (child_of_word level (five j)))
+              λ j. root_if_held (nat_lt (long j) u) (six j) (child_of_word level (five j)))
         ]
 
 -- the last word of a version without a mark is stored
@@ -166,11 +166,11 @@ pub readies_mark : (p : Layout) (seat : ℕ) (v : SeatView) (u word : ℕ) → v
     → MayWrite p seat v (Version u 7) (λ _. word) (Rests p)
     (λ k w. w ≡ log_knowing v (Version u 7) word)
 readies_mark p seat v u word has known models old views r at =
-    let x : Spot = Version u 7 in
+    let x : WordId = Version u 7 in
     let w : SeatView = log_knowing v x word in
     let none : old (Version u 6) ≡ 0 =
     r.log.turn.known seat v at (Version u 6) 0 has tt known in
-    let both : (new : Spot → ℕ) → Wrote old x word new
+    let both : (new : WordId → ℕ) → Wrote old x word new
     → KeepsRule p models new (set views seat w)
     × Rests p (table_state p old views) (table_state p new (set views seat w)) =
     λ new wrote. stored p models old new views seat v r at u 7 word has wrote
@@ -178,7 +178,7 @@ readies_mark p seat v u word has known models old views r at =
     wrote.others LogLength (λ e. (let no : ⊥ = cc in no)) in
     let six = wrote.others (Version y 6) (λ e. (let s = same_word y u 6 7 e in omega arith)) in
     let five = wrote.others (Version y 5) (λ e. (let s = same_word y u 5 7 e in omega arith)) in
-    λ j. kept_root (nat_lt (long j) y) (six j) (child_of_word (top p.side) (five j))))
+    λ j. root_if_held (nat_lt (long j) y) (six j) (child_of_word (top p.side) (five j))))
     (λ m k lt few. wrote.others (Version (suc m) k)
     (λ e. (let s = same_word (suc m) u k 7 e in omega arith)))
     (λ m lt. wrote.others (Version m 6) (λ e. (let s = same_word m u 6 7 e in omega arith)))

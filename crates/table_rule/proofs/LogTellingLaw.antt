@@ -13,21 +13,21 @@ use Rattle.node_words.specs.shapes.Tree.{Tree, root_of, shape_of}
 use Rattle.node_words.specs.Held.{IsReached}
 use Rattle.node_words.specs.Plans.{Layout}
 use Rattle.core_laws.specs.places.KeyWords.{child_of_word}
-use Rattle.core_laws.specs.places.Spots.{Spot, LogLength, Version, versions}
+use Rattle.core_laws.specs.places.WordIds.{WordId, LogLength, Version, versions}
 use Rattle.retain.specs.StoreLaws.{stored_stays}
 use Rattle.retain.specs.Logs.{Log}
 use Rattle.retain.specs.Stores.{stored_in}
 use Rattle.retain.specs.Packing.{log_words}
 use Rattle.retain.specs.Record.{Record}
 use Rattle.core_laws.specs.contents.Aligned.{top, world_block}
-use Rattle.core_laws.specs.contents.Versions.{IsKept, SameWorld}
+use Rattle.core_laws.specs.contents.Versions.{HoldsVersion, SameWorld}
 use Rattle.core_laws.proofs.Lives.{root_lives}
 use Rattle.core_laws.proofs.LogSteps.{root_in_range}
 use Rattle.core_laws.proofs.RootCells.{same_cells, same_root, no_root_no_cell}
 use Rattle.core_laws.specs.States.{State, IsLive, tree_at, tree_of}
-use Rattle.table_rule.specs.Reading.{kept_root, book_of}
+use Rattle.table_rule.specs.Reading.{root_if_held, book_of}
 use Rattle.table_rule.specs.LogKnowing.{IsPrefix}
-use Rattle.table_rule.specs.LogTelling.{number_seen, seen_has, IsShownUnmarked, IsShownRoot, LogTells, RootsTell}
+use Rattle.table_rule.specs.LogFacts.{number_seen, seen_has, IsShownUnmarked, IsShownRoot, LogFacts, RootFacts}
 use Rattle.table_rule.specs.LogWords.{log_in, records_in, record_of_words, word_in}
 use Rattle.table_rule.specs.Rules.{KeepsRule, table_state}
 use Rattle.table_rule.specs.Views.{SeatView, bucket_of, known_at}
@@ -35,12 +35,12 @@ use Rattle.table_rule.proofs.LogReading.{length_records, take_records, get_recor
 
 -- a version up to the length has just the root that its words say, where it has no mark
 pub root_there : (level long u mark word : ℕ) → u ≤ long → mark ≡ 0
-    → kept_root (nat_lt long u) mark (child_of_word level word) ≡ child_of_word level word
+    → root_if_held (nat_lt long u) mark (child_of_word level word) ≡ child_of_word level word
 root_there level long u mark word le none =
     let late : nat_lt long u ≡ false = le-ltb long u le in
-    λ i. kept_root (late i) (none i) (child_of_word level word)
+    λ i. root_if_held (late i) (none i) (child_of_word level word)
 
-module _ (p : Layout) (models : List Content) (mem : Spot → ℕ) (views : List SeatView) (seat : ℕ)
+module _ (p : Layout) (models : List Content) (mem : WordId → ℕ) (views : List SeatView) (seat : ℕ)
     (v : SeatView) (r : KeepsRule p models mem views) (at : slice_get views seat ≡ Some v) where
   abbrev log : Log
   log = log_in p mem
@@ -82,7 +82,7 @@ module _ (p : Layout) (models : List Content) (mem : Spot → ℕ) (views : List
       ∙ ap (λ (rs : List Record). take n rs) (sym b.records)
       ∙ take_records mem n (mem LogLength) (omega arith)
 
-  pub log_tells : LogTells v
+  pub log_tells : LogFacts v
   log_tells = record {
     few = (let a = seen_le in let b = log_few in omega arith);
     own = r.log.knows.own_seen seat v at;
@@ -106,7 +106,7 @@ module _ (p : Layout) (models : List Content) (mem : Spot → ℕ) (views : List
       ap (λ (rs : List Record). stored_in (2 ^ p.side) models rs u q) b.records
       ∙ stored_stays (2 ^ p.side) models v.log.seen.records b.more u q le
 
-  pub is_kept : (u : ℕ) → IsShownUnmarked v u → IsKept log u
+  pub is_kept : (u : ℕ) → IsShownUnmarked v u → HoldsVersion log u
   is_kept u s = record {
     there = (let le = seen_le in let low = s.there in
         let long = length_records mem (mem LogLength) in omega arith);
@@ -125,7 +125,7 @@ module _ (p : Layout) (models : List Content) (mem : Spot → ℕ) (views : List
       ∙ ap (child_of_word (top p.side)) (log_known u 5 word s.turn known)
 
 -- of a view whose plan and models are those of the table
-module _ (mem : Spot → ℕ) (views : List SeatView) (seat : ℕ) (v : SeatView)
+module _ (mem : WordId → ℕ) (views : List SeatView) (seat : ℕ) (v : SeatView)
     (r : KeepsRule v.plan v.models mem views) (at : slice_get views seat ≡ Some v)
     (lives : (t : Tree) (n : Name) → IsReached v.held t → root_of t ≡ Some n
     → IsLive v.plan (table_state v.plan mem views) n
@@ -136,7 +136,7 @@ module _ (mem : Spot → ℕ) (views : List SeatView) (seat : ℕ) (v : SeatView
   abbrev p : Layout
   p = v.plan
 
-  shown_kept : (u : ℕ) → IsShownUnmarked v u → IsKept d.log u
+  shown_kept : (u : ℕ) → IsShownUnmarked v u → HoldsVersion d.log u
   shown_kept u s = is_kept p v.models mem views seat v r at u s
 
   pub shown_root : (u : ℕ) (root : Option Name) → IsShownRoot v u root → d.root u ≡ root
@@ -181,7 +181,7 @@ module _ (mem : Spot → ℕ) (views : List SeatView) (seat : ℕ) (v : SeatView
     each = λ q inside. shown_has u a q ∙ same.each q inside ∙ sym (shown_has w b q);
   }
 
-  pub roots_tell : RootsTell v
+  pub roots_tell : RootFacts v
   roots_tell = record {
     none = λ u s q inside.
         sym (shown_has u s.unmarked q)

@@ -4,27 +4,27 @@ use Rattle.std.specs.List.{slice_get, Contains}
 use prog.Atomic.{either}
 use Rattle.vox_read.specs.Contents.{Content}
 use Rattle.node_words.specs.Plans.{Layout}
-use Rattle.core_laws.specs.places.Spots.{Spot, Sessions, LogTurn, LogLength, Version}
+use Rattle.core_laws.specs.places.WordIds.{WordId, Sessions, LogTurn, LogLength, Version}
 use Rattle.history_model.specs.Logs.{Log}
 use Rattle.core_laws.specs.Events.{Rests}
 use Rattle.table_rule.specs.Reading.{Wrote}
 use Rattle.table_rule.specs.LogKnowing.{KnowsLog}
-use Rattle.table_rule.specs.LogTurning.{KeepsLogTurn}
+use Rattle.table_rule.specs.LogTurnRules.{KeepsLogTurn}
 use Rattle.table_rule.specs.LogViews.{LogView}
 use Rattle.table_rule.specs.LogWords.{log_in}
 use Rattle.table_rule.specs.Rules.{KeepsRule, KeepsOn, table_state, MayWrite, MayWriteAmong}
-use Rattle.table_rule.specs.Turning.{turn_of}
+use Rattle.table_rule.specs.TurnRules.{turn_of}
 use Rattle.table_rule.specs.Views.{SeatView}
 use Rattle.table_rule.proofs.LogPartA.{log_same_step, log_take_step, log_leave_step, not_log_turn}
 use Rattle.table_rule.proofs.LogPartC.{SeatKnows, one_knows, knows_set}
 use Rattle.table_rule.proofs.LogReading.{log_reads, written_reads}
 use Rattle.table_rule.proofs.PartA.{beside_step, same_seat}
 use Rattle.table_rule.proofs.StateSteps.{quiet_log, entries_same, roots_read, same_mem}
-use Rattle.table_rule.specs.LogChanges.{log_turned, met_busy}
+use Rattle.table_rule.specs.LogChanges.{under_log_turn, met_busy}
 use Rattle.table_rule.proofs.LogLoads.{with_log}
 
 -- the word of the log's turn changes, and with it what the seat says of that turn
-module _ (p : Layout) (models : List Content) (old new : Spot → ℕ) (views : List SeatView)
+module _ (p : Layout) (models : List Content) (old new : WordId → ℕ) (views : List SeatView)
     (seat : ℕ) (v : SeatView) (l : LogView) (r : KeepsRule p models old views)
     (at : slice_get views seat ≡ Some v) (n : ℕ) (wrote : Wrote old LogTurn n new)
     (knows : SeatKnows (log_in p old) v.numbers l) where
@@ -62,7 +62,7 @@ module _ (p : Layout) (models : List Content) (old new : Spot → ℕ) (views : 
       (λ c y of. wrote.others y (not_log_turn c y of)))
       refl refl refl refl refl (λ m h. inl h)
 
-module _ (p : Layout) (seat : ℕ) (v : SeatView) (models : List Content) (old : Spot → ℕ)
+module _ (p : Layout) (seat : ℕ) (v : SeatView) (models : List Content) (old : WordId → ℕ)
     (views : List SeatView) (r : KeepsRule p models old views)
     (at : slice_get views seat ≡ Some v) where
   -- the seat knows of the log what it knew
@@ -71,7 +71,7 @@ module _ (p : Layout) (seat : ℕ) (v : SeatView) (models : List Content) (old :
       → SeatKnows (log_in p old) v.numbers l
   knows_as l seen taken records marks found =
       let k = one_knows (old Sessions) (log_in p old) views seat v r.log.knows at in
-      let moved : (b : Bool) (ws : List (Spot × ℕ)) (busy : List ℕ)
+      let moved : (b : Bool) (ws : List (WordId × ℕ)) (busy : List ℕ)
       → SeatKnows (log_in p old) v.numbers (record v.log { turn = b; words = ws; busy = busy }) =
       λ b ws busy. record {
         seen = k.seen;
@@ -92,12 +92,12 @@ module _ (p : Layout) (seat : ℕ) (v : SeatView) (models : List Content) (old :
         busy = l.busy;
       }) (moved l.turn l.words l.busy)
 
-  log_taken : (k : ℕ) (new : Spot → ℕ) → v.log.turn ≡ false → Contains v.numbers k
+  log_taken : (k : ℕ) (new : WordId → ℕ) → v.log.turn ≡ false → Contains v.numbers k
       → old LogTurn ≡ 0 → Wrote old LogTurn (either (eqb (old LogTurn) 0) (1 + k) (old LogTurn)) new
-      → KeepsRule p models new (set views seat (log_turned v true))
-      × Rests p (table_state p old views) (table_state p new (set views seat (log_turned v true)))
+      → KeepsRule p models new (set views seat (under_log_turn v true))
+      × Rests p (table_state p old views) (table_state p new (set views seat (under_log_turn v true)))
   log_taken k new idle mine free written =
-      let l : LogView = (log_turned v true).log in
+      let l : LogView = (under_log_turn v true).log in
       let wrote : Wrote old LogTurn (1 + k) new =
       subst (λ t. Wrote old LogTurn (either t (1 + k) (old LogTurn)) new)
       (eq-eqb (old LogTurn) 0 free) written in
@@ -107,7 +107,7 @@ module _ (p : Layout) (seat : ℕ) (v : SeatView) (models : List Content) (old :
       (log_sessions p models old new views seat v l r at (1 + k) wrote knows) k idle mine free
       wrote refl refl)
 
-  log_missed : (k other : ℕ) (new : Spot → ℕ) → old LogTurn ≡ suc other
+  log_missed : (k other : ℕ) (new : WordId → ℕ) → old LogTurn ≡ suc other
       → Wrote old LogTurn (either (eqb (old LogTurn) 0) (1 + k) (old LogTurn)) new
       → KeepsRule p models new (set views seat (met_busy v other))
       × Rests p (table_state p old views) (table_state p new (set views seat (met_busy v other)))
@@ -120,13 +120,13 @@ module _ (p : Layout) (seat : ℕ) (v : SeatView) (models : List Content) (old :
       log_turn_written p models old new views seat v l r at (old LogTurn) wrote knows
       (log_same_step p old views r.turns r.log.turn seat v at new (with_log v l) refl
       (log_sessions p models old new views seat v l r at (old LogTurn) wrote knows) wrote.here
-      (λ x of. ap (λ (m : Spot → ℕ). m x) (same_mem old new LogTurn wrote)) refl refl)
+      (λ x of. ap (λ (m : WordId → ℕ). m x) (same_mem old new LogTurn wrote)) refl refl)
 
-  log_left : (new : Spot → ℕ) → v.log.turn ≡ true → Wrote old LogTurn 0 new
-      → KeepsRule p models new (set views seat (log_turned v false))
-      × Rests p (table_state p old views) (table_state p new (set views seat (log_turned v false)))
+  log_left : (new : WordId → ℕ) → v.log.turn ≡ true → Wrote old LogTurn 0 new
+      → KeepsRule p models new (set views seat (under_log_turn v false))
+      × Rests p (table_state p old views) (table_state p new (set views seat (under_log_turn v false)))
   log_left new has wrote =
-      let l : LogView = (log_turned v false).log in
+      let l : LogView = (under_log_turn v false).log in
       let knows = knows_as l refl refl refl refl refl in
       log_turn_written p models old new views seat v l r at 0 wrote knows
       (log_leave_step p old views r.turns r.log.turn seat v at new (with_log v l) refl
@@ -150,7 +150,7 @@ module _ (p : Layout) (seat : ℕ) (v : SeatView) (models : List Content) (old :
 pub takes_log : (sessions : ℕ) (p : Layout) (seat : ℕ) (v : SeatView) (k : ℕ) → v.log.turn ≡ false
     → Contains v.numbers k
     → MayWriteAmong sessions p seat v LogTurn (λ n. either (eqb n 0) (1 + k) n) (Rests p)
-    (λ n w. (n ≡ 0 → w ≡ log_turned v true)
+    (λ n w. (n ≡ 0 → w ≡ under_log_turn v true)
     × ((other : ℕ) → n ≡ suc other → (w ≡ met_busy v other) × (other < sessions)
     × ¬ Contains v.numbers other))
 takes_log sessions p seat v k idle mine models old views r few at = go (old LogTurn) refl
@@ -158,11 +158,11 @@ takes_log sessions p seat v k idle mine models old views r few at = go (old LogT
     go : (n : ℕ) → old LogTurn ≡ n
         → KeepsOn p models seat old views v LogTurn
         (either (eqb (old LogTurn) 0) (1 + k) (old LogTurn)) (Rests p)
-        (λ w. (old LogTurn ≡ 0 → w ≡ log_turned v true)
+        (λ w. (old LogTurn ≡ 0 → w ≡ under_log_turn v true)
         × ((other : ℕ) → old LogTurn ≡ suc other → (w ≡ met_busy v other) × (other < sessions)
         × ¬ Contains v.numbers other))
     go zero free = record {
-      view = log_turned v true;
+      view = under_log_turn v true;
       rule = λ new e. (log_taken p seat v models old views r at k new idle mine free e).0;
       event = λ new e. (log_taken p seat v models old views r at k new idle mine free e).1;
       same = record { alive = refl; plan = refl; models = refl; numbers = refl };
@@ -183,9 +183,9 @@ takes_log sessions p seat v k idle mine models old views r few at = go (old LogT
     }
 
 pub leaves_log : (p : Layout) (seat : ℕ) (v : SeatView) → v.log.turn ≡ true
-    → MayWrite p seat v LogTurn (λ _. 0) (Rests p) (λ k w. w ≡ log_turned v false)
+    → MayWrite p seat v LogTurn (λ _. 0) (Rests p) (λ k w. w ≡ under_log_turn v false)
 leaves_log p seat v has models old views r at = record {
-  view = log_turned v false;
+  view = under_log_turn v false;
   rule = λ new e. (log_left p seat v models old views r at new has e).0;
   event = λ new e. (log_left p seat v models old views r at new has e).1;
   same = record { alive = refl; plan = refl; models = refl; numbers = refl };

@@ -4,9 +4,9 @@ use Rattle.std.specs.List.{Contains}
 use Rattle.std.proofs.lemmas.Bool.{cases_eq}
 use Rattle.std.proofs.lemmas.List.Elements.{All-append, Contains-append_left, Contains-append_right, Contains-append_cases}
 use Rattle.std.proofs.lemmas.List.Sums.{sum_by-cons, sum_by-append}
-use Rattle.core_laws.specs.places.Spots.{Spot, Version}
+use Rattle.core_laws.specs.places.WordIds.{WordId, Version}
 use Rattle.history_model.specs.declared.histories.Mark.{Mark}
-use Rattle.core_laws.specs.contents.Versions.{MarkComes}
+use Rattle.core_laws.specs.contents.Versions.{InsertsMark}
 use Rattle.table_rule.specs.LogWords.{mark_of_words, if_marked, marks_in}
 use Rattle.table_rule.proofs.Containing.{contains_more}
 use Rattle.table_rule.proofs.LogReading.{marks_kept, marks_suc, mark_read}
@@ -21,15 +21,15 @@ one_version v (suc when) who y c = go c.0 c.1 c.2
     go (suc k) lt e = absurd (omega arith)
 
 -- the word of one version's mark becomes 1 plus a length, and no other word of a mark changes
-pub record OneMarked (old new : Spot → ℕ) (m : Mark) : Type 0 where
+pub record OneMarked (old new : WordId → ℕ) (m : Mark) : Type 0 where
   pub six : (v : ℕ) → v ≢ m.version → new (Version v 6) ≡ old (Version v 6)
   pub seven : (v : ℕ) → new (Version v 7) ≡ old (Version v 7)
   pub was : old (Version m.version 6) ≡ 0
   pub now : new (Version m.version 6) ≡ suc m.at
   pub is : mark_of_words m.version m.at (old (Version m.version 7)) ≡ m
 
-module _ (old new : Spot → ℕ) (m : Mark) (o : OneMarked old new m) where
-  last_here : (k : ℕ) → m.version ≡ k → MarkComes (marks_in old (suc k)) m (marks_in new (suc k))
+module _ (old new : WordId → ℕ) (m : Mark) (o : OneMarked old new m) where
+  last_here : (k : ℕ) → m.version ≡ k → InsertsMark (marks_in old (suc k)) m (marks_in new (suc k))
   last_here k same = record {
     before = marks_in old k;
     after = [];
@@ -51,7 +51,7 @@ module _ (old new : Spot → ℕ) (m : Mark) (o : OneMarked old new m) where
     higher = λ i y lt. absurd (omega arith);
   }
 
-  pub mark_comes : (n : ℕ) → m.version < n → MarkComes (marks_in old n) m (marks_in new n)
+  pub mark_comes : (n : ℕ) → m.version < n → InsertsMark (marks_in old n) m (marks_in new n)
   mark_comes zero lt = absurd (omega arith)
   mark_comes (suc k) lt = elim (cases_eq m.version k) [
     | inl same ↦ last_here k same
@@ -78,19 +78,19 @@ module _ (old new : Spot → ℕ) (m : Mark) (o : OneMarked old new m) where
   ]
 
 -- what holds once a mark came
-pub comes_sum : (g : Mark → ℕ) (a : List Mark) (m : Mark) (b : List Mark) → MarkComes a m b
+pub comes_sum : (g : Mark → ℕ) (a : List Mark) (m : Mark) (b : List Mark) → InsertsMark a m b
     → sum_by g b ≡ g m + sum_by g a
 comes_sum g a m b c =
     let x = ap (λ (l : List Mark). sum_by g l) c.is ∙ sum_by-append g c.before (m ∷ c.after) in
     let y = ap (λ (l : List Mark). sum_by g l) c.was ∙ sum_by-append g c.before c.after in
     let z = sum_by-cons g m c.after in omega arith
 
-pub comes_new : (a : List Mark) (m : Mark) (b : List Mark) → MarkComes a m b → Contains b m
+pub comes_new : (a : List Mark) (m : Mark) (b : List Mark) → InsertsMark a m b → Contains b m
 comes_new a m b c =
     subst (λ (l : List Mark). Contains l m) (sym c.is)
     (Contains-append_right c.before (m ∷ c.after) m (0, omega arith, refl))
 
-pub comes_keeps : (a : List Mark) (m : Mark) (b : List Mark) (y : Mark) → MarkComes a m b
+pub comes_keeps : (a : List Mark) (m : Mark) (b : List Mark) (y : Mark) → InsertsMark a m b
     → Contains a y → Contains b y
 comes_keeps a m b y c h =
     subst (λ (l : List Mark). Contains l y) (sym c.is)

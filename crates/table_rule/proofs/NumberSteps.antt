@@ -4,14 +4,14 @@ use Rattle.std.proofs.lemmas.Bool.{cases_eq}
 use Rattle.std.specs.List.{slice_get, Contains}
 use Rattle.vox_read.specs.Contents.{Content}
 use Rattle.node_words.specs.Plans.{Layout}
-use Rattle.core_laws.specs.places.Spots.{Spot, LogTurn, LogLength, Version, Sessions, IsSpot}
+use Rattle.core_laws.specs.places.WordIds.{WordId, LogTurn, LogLength, Version, Sessions, IsWordId}
 use Rattle.table_rule.specs.Reading.{Wrote}
 use Rattle.table_rule.specs.Views.{SeatView, BucketAt, number_dec, known_at}
-use Rattle.table_rule.specs.Turning.{IsOf, turn_of, IsTurnWord, KeepsTurns}
+use Rattle.table_rule.specs.TurnRules.{IsOf, turn_of, IsTurnWord, KeepsTurns}
 use Rattle.core_laws.specs.Events.{Rests}
 use Rattle.history_model.specs.Logs.{Log}
 use Rattle.table_rule.specs.LogKnowing.{IsPrefix, OwnsIn, WasFound, KnowsLog}
-use Rattle.table_rule.specs.LogTurning.{IsOfLog, KeepsLogTurn}
+use Rattle.table_rule.specs.LogTurnRules.{IsOfLog, KeepsLogTurn}
 use Rattle.retain.specs.Listing.{Found}
 use Rattle.table_rule.specs.LogWords.{log_in}
 use Rattle.table_rule.specs.Rules.{KeepsRule, KeepsLog, table_state}
@@ -45,7 +45,7 @@ contains_cons x xs n c = go c.0 c.1 c.2
     go zero lt e = inl e
     go (suc k) lt e = inr (k, omega arith, e)
 
-module _ (p : Layout) (old new : Spot → ℕ) (views : List SeatView) (a : KeepsTurns p old views)
+module _ (p : Layout) (old new : WordId → ℕ) (views : List SeatView) (a : KeepsTurns p old views)
     (seat : ℕ) (v : SeatView) (at : slice_get views seat ≡ Some v) (right : v.right ≡ true)
     (bare : v.numbers ≡ []) (room : v.next < 64)
     (wrote : Wrote old Sessions (1 + v.next) new) where
@@ -112,7 +112,7 @@ module _ (p : Layout) (old new : Spot → ℕ) (views : List SeatView) (a : Keep
         (λ r. ((a.right seat v at right).0, wrote.here))
         (λ j d ne e r. absurd (ne (sym (a.right j d e r).0 ∙ (a.right seat v at right).0)));
     turn = each
-        (λ i d. (b : BucketAt) → d.turn ≡ Some b → IsSpot p (turn_of b)
+        (λ i d. (b : BucketAt) → d.turn ≡ Some b → IsWordId p (turn_of b)
         × IsTurnWord d (new (turn_of b))) views seat w
         (λ b h. let t = a.turn seat v at b h in absurd (no_mark (old (turn_of b)) t.1))
         (λ j d _ e b h. let t = a.turn j d e b h in (
@@ -124,7 +124,7 @@ module _ (p : Layout) (old new : Spot → ℕ) (views : List SeatView) (a : Keep
           },
         ));
     back = each
-        (λ i d. (b : BucketAt) → IsSpot p (turn_of b) → IsTurnWord d (new (turn_of b))
+        (λ i d. (b : BucketAt) → IsWordId p (turn_of b) → IsTurnWord d (new (turn_of b))
         → d.turn ≡ Some b) views seat w
         (λ b low m. absurd (not_next b low m))
         (λ j d _ e b low m. a.back j d e b low
@@ -133,7 +133,7 @@ module _ (p : Layout) (old new : Spot → ℕ) (views : List SeatView) (a : Keep
         (let n = a.named b low in let e = turns_stay b in let o = was in let h = wrote.here in
         omega arith);
     known = each
-        (λ i d. (b : BucketAt) (x : Spot) (n : ℕ) → d.turn ≡ Some b → IsOf b x
+        (λ i d. (b : BucketAt) (x : WordId) (n : ℕ) → d.turn ≡ Some b → IsOf b x
         → known_at x d.words ≡ Some n → new x ≡ n) views seat w
         (λ b x n h of l. wrote.others x (λ e. of_not_sessions b x of (sym e))
         ∙ a.known seat v at b x n h of l)
@@ -148,7 +148,7 @@ module _ (p : Layout) (old new : Spot → ℕ) (views : List SeatView) (a : Keep
           (let c = subst (λ (l : List ℕ). Contains l m.number) bare m.carried in let k = c.1 in
           absurd (omega arith))
 
-      not_next : (b : BucketAt) → IsSpot p (turn_of b) → IsTurnWord w (new (turn_of b)) → ⊥
+      not_next : (b : BucketAt) → IsWordId p (turn_of b) → IsTurnWord w (new (turn_of b)) → ⊥
       not_next b low m = ⊎_elim
           (λ (e : v.next ≡ m.number).
           (let i = m.is in let t = turns_stay b in let n = a.named b low in let o = was in
@@ -158,7 +158,7 @@ module _ (p : Layout) (old new : Spot → ℕ) (views : List SeatView) (a : Keep
           (contains_cons v.next v.numbers m.number m.carried)
 
 -- the new number is none that the log knows
-module _ (p : Layout) (old new : Spot → ℕ) (views : List SeatView) (a : KeepsTurns p old views)
+module _ (p : Layout) (old new : WordId → ℕ) (views : List SeatView) (a : KeepsTurns p old views)
     (seat : ℕ) (v : SeatView) (at : slice_get views seat ≡ Some v) (right : v.right ≡ true)
     (bare : v.numbers ≡ []) (wrote : Wrote old Sessions (1 + v.next) new)
     (stays : LogStays old new) (k : KeepsLog p old views) where
@@ -193,7 +193,7 @@ module _ (p : Layout) (old new : Spot → ℕ) (views : List SeatView) (a : Keep
     named = (let n = k.turn.named in let t = stays.turn in let o = made_was in
         let h = wrote.here in omega arith);
     known = each
-        (λ i d. (x : Spot) (n : ℕ) → d.log.turn ≡ true → IsOfLog x
+        (λ i d. (x : WordId) (n : ℕ) → d.log.turn ≡ true → IsOfLog x
         → known_at x d.log.words ≡ Some n → new x ≡ n) views seat after
         (λ x n h of l. log_word old new x stays of ∙ k.turn.known seat v at x n h of l)
         (λ j d _ e x n h of l. log_word old new x stays of ∙ k.turn.known j d e x n h of l);
@@ -233,7 +233,7 @@ module _ (p : Layout) (old new : Spot → ℕ) (views : List SeatView) (a : Keep
   }
 
 -- the rule after the next number was taken
-pub numbers_itself : (p : Layout) (models : List Content) (old new : Spot → ℕ)
+pub numbers_itself : (p : Layout) (models : List Content) (old new : WordId → ℕ)
     (views : List SeatView) (seat : ℕ) (v : SeatView) → KeepsRule p models old views
     → slice_get views seat ≡ Some v → v.right ≡ true → v.numbers ≡ [] → v.next < 64
     → Wrote old Sessions (1 + v.next) new

@@ -17,7 +17,7 @@ use Rattle.node_words.specs.Held.{IsHeld}
 use Rattle.node_words.proofs.PlanLaws.{few_buckets}
 use Rattle.core_laws.specs.places.KeyWords.{key_word, FitsHalf, IsKeyAt}
 use Rattle.core_laws.specs.places.Names.{IsName, named, key_bits, key_child}
-use Rattle.core_laws.specs.places.Spots.{Spot, buckets_at, Sessions}
+use Rattle.core_laws.specs.places.WordIds.{WordId, buckets_at, Sessions}
 use Rattle.core_laws.proofs.OfPlaces.KeyLaws.{key_back, words_key}
 use Rattle.core_laws.specs.States.{State, IsLive, tree_at, tree_of, shape_in}
 use Rattle.core_laws.specs.Soundness.{SoundEntries, FitsLevel}
@@ -30,8 +30,8 @@ use Rattle.core_laws.proofs.SeenNodes.{gone_tree, leaf_tree, node_tree}
 use Rattle.core_laws.proofs.Bounds.{missing_in_bucket}
 use Rattle.table_rule.specs.Reading.{Wrote, book_of}
 use Rattle.table_rule.proofs.Readings.{traded, adds_book}
-use Rattle.table_rule.specs.Views.{SeatView, bucket_of, key_spot, known_at, names_held}
-use Rattle.table_rule.specs.Turning.{used_of}
+use Rattle.table_rule.specs.Views.{SeatView, bucket_of, key_word_id, known_at, names_held}
+use Rattle.table_rule.specs.TurnRules.{used_of}
 use Rattle.table_rule.specs.Knowing.{all_made}
 use Rattle.table_rule.specs.LogWords.{log_in}
 use Rattle.table_rule.specs.Rules.{KeepsRule, table_state, MayWrite}
@@ -98,7 +98,7 @@ tree_new p c (suc level) n (Node cs) row of fits is names stand =
         let same : level ≡ m.level = omega arith in
         ap (λ (l : ℕ). tree_at c.key l (Some m)) same ∙ stand k m lt e
 
-module _ (p : Layout) (models : List Content) (old : Spot → ℕ) (views : List SeatView) (seat : ℕ)
+module _ (p : Layout) (models : List Content) (old : WordId → ℕ) (views : List SeatView) (seat : ℕ)
     (v : SeatView) (n : Name) (key : keys.Key) (row : ℕ → Tree) (r : KeepsRule p models old views)
     (at : slice_get views seat ≡ Some v) (may : MayPublish p v n key row) where
   abbrev c : State
@@ -131,9 +131,9 @@ module _ (p : Layout) (models : List Content) (old : Spot → ℕ) (views : List
       record { is_child = (omega arith, omega arith); low = omega arith }
 
   key_is : c.key n ≡ key
-  key_is = words_key n.level key (λ i. old (key_spot n i))
+  key_is = words_key n.level key (λ i. old (key_word_id n i))
       (key_fits n.level key may.fits (λ k lt. half_fits k lt (key_child key k) refl))
-      (λ i lt. r.turns.known seat v at (bucket_of n) (key_spot n i) (key_word key i) may.turn
+      (λ i lt. r.turns.known seat v at (bucket_of n) (key_word_id n i) (key_word key i) may.turn
       (refl, refl) (may.has_key.each i lt))
 
   -- no live entry of the level has the key
@@ -145,9 +145,9 @@ module _ (p : Layout) (models : List Content) (old : Spot → ℕ) (views : List
   passed m level bucket (inr other) some e =
       let word =
       r.turns.known seat v at (bucket_of n)
-      (key_spot m other.word) other.found may.turn (level, bucket) other.known in
+      (key_word_id m other.word) other.found may.turn (level, bucket) other.known in
       other.other
-      (sym word ∙ sym (key_back m.level (λ j. old (key_spot m j)) other.word other.inside)
+      (sym word ∙ sym (key_back m.level (λ j. old (key_word_id m j)) other.word other.inside)
       ∙ ap (λ (k : keys.Key). key_word k other.word) e)
 
   none_has : (m : Name) → IsLive p c m → m.level ≡ n.level → c.key m ≢ key
@@ -179,7 +179,7 @@ module _ (p : Layout) (models : List Content) (old : Spot → ℕ) (views : List
     gives_children f = let a = weigh_names f v in let e = may.held (by_name f) in
         let k = children_weigh f key row may.names in omega arith
 
-    module _ (new : Spot → ℕ) (wrote : Wrote old (book_of n) 1 new) where
+    module _ (new : WordId → ℕ) (wrote : Wrote old (book_of n) 1 new) where
       abbrev d : State
       d = table_state p new (set views seat w)
 

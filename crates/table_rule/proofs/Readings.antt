@@ -13,15 +13,15 @@ use Rattle.core_laws.specs.Key as keys
 use Rattle.core_laws.specs.Keys.{bucket_of_key}
 use Rattle.core_laws.specs.Plans.{Layout}
 use Rattle.core_laws.specs.places.Names.{IsName}
-use Rattle.core_laws.specs.places.Spots.{Spot, LogLength, Version, Key, buckets_at, versions}
+use Rattle.core_laws.specs.places.WordIds.{WordId, LogLength, Version, Key, buckets_at, versions}
 use Rattle.core_laws.specs.places.KeyWords.{child_of_word, key_of_words}
 use Rattle.core_laws.specs.Logs.{Log}
 use Rattle.core_laws.specs.contents.Aligned.{top}
 use Rattle.core_laws.specs.Soundness.{FitsLevel}
 use Rattle.core_laws.specs.Events.{Trades, EntriesStay, OthersStay, RootsStay, IsMissing, Raises, Adds, Lowers, Frees, PutsRoot, TakesRoot, no_weight, one_name, at_most_one, children_named}
-use Rattle.table_rule.specs.Reading.{names_of, kept_root, root_word, read, Wrote, book_of}
+use Rattle.table_rule.specs.Reading.{names_of, root_if_held, root_word, read, Wrote, book_of}
 
-book_apart : (m n : Name) → m ≢ n → book_of m ≢ book_of n
+pub book_apart : (m n : Name) → m ≢ n → book_of m ≢ book_of n
 book_apart m n other e = other (same_name m n (cc) (cc) (cc))
 
 pub keys_same : (level : ℕ) (words others : ℕ → ℕ) → ((i : ℕ) → words i ≡ others i)
@@ -52,7 +52,7 @@ pub seats_traded : (seats : List (List Tree)) (seat : ℕ) (before after : List 
 seats_traded seats seat before after gives takes at holds weighs =
     traded names_of seats seat before after gives takes at holds weighs
 
-module _ (p : Layout) (log_in : (Spot → ℕ) → Log) (old new : Spot → ℕ)
+module _ (p : Layout) (log_in : (WordId → ℕ) → Log) (old new : WordId → ℕ)
     (held after : List (List Name)) where
   book_key : (n m : Name) (k : ℕ) → Wrote old (book_of n) k new
       → (read p log_in new after).key m ≡ (read p log_in old held).key m
@@ -74,7 +74,7 @@ module _ (p : Layout) (log_in : (Spot → ℕ) → Log) (old new : Spot → ℕ)
       let len = wrote.others LogLength (λ e. (let no : ⊥ = cc in no)) in
       let mark = wrote.others (Version v 6) (λ e. (let no : ⊥ = cc in no)) in
       let word = wrote.others (Version v 5) (λ e. (let no : ⊥ = cc in no)) in
-      λ i. kept_root (nat_lt (len i) v) (mark i) (child_of_word (top p.side) (word i))
+      λ i. root_if_held (nat_lt (len i) v) (mark i) (child_of_word (top p.side) (word i))
 
   pub raises_book : (holder : ℕ) (n : Name) → IsName p n → 0 < old (book_of n)
       → Wrote old (book_of n) (old (book_of n) + 1) new
@@ -150,7 +150,7 @@ module _ (p : Layout) (log_in : (Spot → ℕ) → Log) (old new : Spot → ℕ)
         omega arith)));
   }
 
-  log_step_entries : (x : Spot) (k : ℕ) → ((m : Name) → book_of m ≢ x)
+  log_step_entries : (x : WordId) (k : ℕ) → ((m : Name) → book_of m ≢ x)
       → ((m : Name) (i : ℕ) → Key m.level m.bucket m.slot i ≢ x) → Wrote old x k new
       → EntriesStay p (read p log_in old held) (read p log_in new after)
   log_step_entries x k no_book no_key wrote = record {
@@ -175,7 +175,7 @@ module _ (p : Layout) (log_in : (Spot → ℕ) → Log) (old new : Spot → ℕ)
       (read p log_in new after)
   appends_root holder next is room unmarked wrote trade = record {
     in_range = room;
-    free = ap (λ (b : Bool). kept_root b (old (Version next 6)) (root_word p old next))
+    free = ap (λ (b : Bool). root_if_held b (old (Version next 6)) (root_word p old next))
         (lt-ltb (old LogLength) next (omega arith));
     new_root =
         (let past : nat_lt (new LogLength) next ≡ false = ap (λ (n : ℕ). nat_lt n next) wrote.here
@@ -183,20 +183,20 @@ module _ (p : Layout) (log_in : (Spot → ℕ) → Log) (old new : Spot → ℕ)
         let mark : new (Version next 6) ≡ 0 =
         wrote.others (Version next 6) (λ e. (let no : ⊥ = cc in no)) ∙ unmarked in
         let word = wrote.others (Version next 5) (λ e. (let no : ⊥ = cc in no)) in
-        λ i. kept_root (past i) (mark i) (child_of_word (top p.side) (word i)));
+        λ i. root_if_held (past i) (mark i) (child_of_word (top p.side) (word i)));
     roots = λ u other.
         (let past : nat_lt (new LogLength) u ≡ nat_lt (old LogLength) u =
         ap (λ (n : ℕ). nat_lt n u) wrote.here ∙ same_side next u is other in
         let mark = wrote.others (Version u 6) (λ e. (let no : ⊥ = cc in no)) in
         let word = wrote.others (Version u 5) (λ e. (let no : ⊥ = cc in no)) in
-        λ i. kept_root (past i) (mark i) (child_of_word (top p.side) (word i)));
+        λ i. root_if_held (past i) (mark i) (child_of_word (top p.side) (word i)));
     entries =
         log_step_entries LogLength next (λ m e. (let no : ⊥ = cc in no))
         (λ m i e. (let no : ⊥ = cc in no)) wrote;
     held = trade;
   }
 
-  marked : (b : Bool) (at : ℕ) (root : Option Name) → kept_root b (suc at) root ≡ None
+  marked : (b : Bool) (at : ℕ) (root : Option Name) → root_if_held b (suc at) root ≡ None
   marked true at root = refl
   marked false at root = refl
 
@@ -208,14 +208,14 @@ module _ (p : Layout) (log_in : (Spot → ℕ) → Log) (old new : Spot → ℕ)
   forgets_root holder version at room wrote trade = record {
     in_range = room;
     no_root =
-        ap (λ (mark : ℕ). kept_root (nat_lt (new LogLength) version) mark
+        ap (λ (mark : ℕ). root_if_held (nat_lt (new LogLength) version) mark
         (root_word p new version)) wrote.here
         ∙ marked (nat_lt (new LogLength) version) at (root_word p new version);
     roots = λ u other.
         (let len = wrote.others LogLength (λ e. (let no : ⊥ = cc in no)) in
         let mark = wrote.others (Version u 6) (λ e. other (cc)) in
         let word = wrote.others (Version u 5) (λ e. other (cc)) in
-        λ i. kept_root (nat_lt (len i) u) (mark i) (child_of_word (top p.side) (word i)));
+        λ i. root_if_held (nat_lt (len i) u) (mark i) (child_of_word (top p.side) (word i)));
     entries =
         log_step_entries (Version version 6) (suc at) (λ m e. (let no : ⊥ = cc in no))
         (λ m i e. (let no : ⊥ = cc in no)) wrote;

@@ -9,18 +9,15 @@ use Rattle.vox_read.specs.Contents.{Content}
 use Rattle.node_words.specs.declared.shapes.names.Name.{Name}
 use Rattle.node_words.specs.shapes.Weights.{number_of_trees}
 use Rattle.node_words.specs.Plans.{Layout}
-use Rattle.core_laws.specs.places.Spots.{Spot, levels}
-use Rattle.core_laws.specs.Events.{Rests}
+use Rattle.core_laws.specs.places.WordIds.{WordId, levels}
 use Rattle.core_laws.specs.places.Names.{IsName}
 use Rattle.core_laws.specs.Counting.{holdings}
 use Rattle.core_laws.proofs.Bounds.{book_small}
 use Rattle.table_rule.specs.Reading.{book_of}
-use Rattle.table_rule.specs.Views.{SeatView, bucket_of, names_held, known_at}
-use Rattle.table_rule.specs.Rules.{KeepsRule, table_state, MayWrite}
-use Rattle.table_rule.specs.Changes.{knowing}
+use Rattle.table_rule.specs.Views.{SeatView, names_held}
+use Rattle.table_rule.specs.Rules.{KeepsRule, table_state}
 use Rattle.node_words.proofs.PlanLaws.{few_buckets}
 use Rattle.table_rule.proofs.PartC.{names_weigh}
-use Rattle.table_rule.proofs.Loads.{looks}
 
 -- all shares are at most so many for each seat
 few_held : (views : List SeatView)
@@ -36,8 +33,8 @@ few_held (v ∷ views) few =
     sum_by-cons (λ (xs : List Name). sum_by (λ _. 1) xs) (names_held v)
     (map names_held views) in omega arith
 
-pub small : (p : Layout) (models : List Content) (mem : Spot → ℕ) (views : List SeatView)
-    (n : Name) → KeepsRule p models mem views → IsName p n → mem (book_of n) < 2 ^ 40
+pub small : (p : Layout) (models : List Content) (mem : WordId → ℕ) (views : List SeatView)
+    (n : Name) → KeepsRule p models mem views → IsName p n → mem (book_of n) < 2 ^ 39
 small p models mem views n r is = elim (cases_lt 0 (mem (book_of n))) [
   | inr none ↦ (let e : mem (book_of n) ≡ 0 = omega arith in omega arith)
   | inl some ↦ (
@@ -51,19 +48,3 @@ small p models mem views n r is = elim (cases_lt 0 (mem (book_of n))) [
       let both = mul-le-mul low cap in
       omega arith)
 ]
-
--- a book is loaded
-pub looks_book : (p : Layout) (seat : ℕ) (v : SeatView) (n : Name) → v.turn ≡ Some (bucket_of n)
-    → IsName p n
-    → MayWrite p seat v (book_of n) (λ k. k) (Rests p)
-    (λ k w. (w ≡ knowing v (book_of n) k)
-    × ((m : ℕ) → known_at (book_of n) v.words ≡ Some m → k ≡ m) × (k < 2 ^ 40))
-looks_book p seat v n has is models mem views r at =
-    let t = looks p seat v (bucket_of n) (book_of n) has (refl, refl) models mem views r at in
-    record {
-      view = t.view;
-      rule = t.rule;
-      event = t.event;
-      same = t.same;
-      told = (t.told.0, t.told.1, small p models mem views n r is);
-    }

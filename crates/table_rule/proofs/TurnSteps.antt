@@ -5,25 +5,25 @@ use Rattle.std.proofs.lemmas.Bool.{cases_eq}
 use prog.Atomic.{either}
 use Rattle.vox_read.specs.Contents.{Content}
 use Rattle.node_words.specs.Plans.{Layout}
-use Rattle.core_laws.specs.places.Spots.{Spot, LogTurn, LogLength, Version, Sessions, IsSpot}
+use Rattle.core_laws.specs.places.WordIds.{WordId, LogTurn, LogLength, Version, Sessions, IsWordId}
 use Rattle.core_laws.specs.Events.{EntriesStay, Rests}
 use Rattle.table_rule.specs.Reading.{Wrote}
 use Rattle.table_rule.specs.Views.{SeatView, BucketAt}
-use Rattle.table_rule.specs.Turning.{turn_of, KeepsTurns}
+use Rattle.table_rule.specs.TurnRules.{turn_of, KeepsTurns}
 use Rattle.table_rule.specs.Rules.{KeepsRule, table_state, SameSession, MayWrite}
 use Rattle.table_rule.proofs.Lookups.{set_again}
 use Rattle.table_rule.proofs.PartA.{take_step, leave_step, same_seat}
 use Rattle.table_rule.proofs.StateSteps.{quiet, entries_same, same_mem}
 use Rattle.table_rule.proofs.LogReading.{LogStays}
 use Rattle.table_rule.proofs.LogKept.{SameLog, same_log}
-use Rattle.table_rule.specs.Changes.{turned}
+use Rattle.table_rule.specs.Changes.{under_turn}
 
 pub same_session : (v : SeatView) → SameSession v v
 same_session v = record { alive = refl; plan = refl; models = refl; numbers = refl }
 
 -- a word that stays is no step of the table's
-pub nothing_written : (p : Layout) (models : List Content) (old new : Spot → ℕ)
-    (views : List SeatView) (seat : ℕ) (v : SeatView) (x : Spot) → KeepsRule p models old views
+pub nothing_written : (p : Layout) (models : List Content) (old new : WordId → ℕ)
+    (views : List SeatView) (seat : ℕ) (v : SeatView) (x : WordId) → KeepsRule p models old views
     → slice_get views seat ≡ Some v → Wrote old x (old x) new
     → KeepsRule p models new (set views seat v)
     × Rests p (table_state p old views) (table_state p new (set views seat v))
@@ -42,7 +42,7 @@ nothing_written p models old new views seat v x r at wrote =
       },
     ))
 
-module _ (p : Layout) (models : List Content) (old new : Spot → ℕ) (views : List SeatView)
+module _ (p : Layout) (models : List Content) (old new : WordId → ℕ) (views : List SeatView)
     (seat : ℕ) (v w : SeatView) (r : KeepsRule p models old views)
     (at : slice_get views seat ≡ Some v) (b : BucketAt) (n : ℕ)
     (wrote : Wrote old (turn_of b) n new) where
@@ -72,15 +72,15 @@ module _ (p : Layout) (models : List Content) (old new : Spot → ℕ) (views : 
       (λ m h. inl (subst (λ l. Contains l m) met h))
 
 module _ (p : Layout) (seat : ℕ) (v : SeatView) (b : BucketAt) (models : List Content)
-    (old : Spot → ℕ) (views : List SeatView) (r : KeepsRule p models old views)
-    (at : slice_get views seat ≡ Some v) (new : Spot → ℕ) where
-  taken : (k : ℕ) → v.turn ≡ None → IsSpot p (turn_of b) → Contains v.numbers k
+    (old : WordId → ℕ) (views : List SeatView) (r : KeepsRule p models old views)
+    (at : slice_get views seat ≡ Some v) (new : WordId → ℕ) where
+  taken : (k : ℕ) → v.turn ≡ None → IsWordId p (turn_of b) → Contains v.numbers k
       → old (turn_of b) ≡ 0 → Wrote old (turn_of b) (either (eqb (old (turn_of b)) 0) (1 + k)
       (old (turn_of b))) new
-      → KeepsRule p models new (set views seat (turned v (Some b)))
-      × Rests p (table_state p old views) (table_state p new (set views seat (turned v (Some b))))
+      → KeepsRule p models new (set views seat (under_turn v (Some b)))
+      × Rests p (table_state p old views) (table_state p new (set views seat (under_turn v (Some b))))
   taken k idle low mine free written =
-      let w : SeatView = turned v (Some b) in
+      let w : SeatView = under_turn v (Some b) in
       let wrote : Wrote old (turn_of b) (1 + k) new =
       subst (λ t. Wrote old (turn_of b) (either t (1 + k) (old (turn_of b))) new)
       (eq-eqb (old (turn_of b)) 0 free) written in
@@ -100,23 +100,23 @@ module _ (p : Layout) (seat : ℕ) (v : SeatView) (b : BucketAt) (models : List 
       (ne_eqb (old (turn_of b)) 0 taken) written)
 
   left : v.turn ≡ Some b → Wrote old (turn_of b) 0 new
-      → KeepsRule p models new (set views seat (turned v None))
-      × Rests p (table_state p old views) (table_state p new (set views seat (turned v None)))
+      → KeepsRule p models new (set views seat (under_turn v None))
+      × Rests p (table_state p old views) (table_state p new (set views seat (under_turn v None)))
   left has wrote =
-      let w : SeatView = turned v None in
+      let w : SeatView = under_turn v None in
       turn_written p models old new views seat v w r at b 0 wrote
       (leave_step p old views r.turns seat v at new w (same_seat v w refl refl refl)
       (sessions p models old new views seat v w r at b 0 wrote) b has wrote refl)
       refl refl refl refl refl refl (same_log v w refl refl)
 
 pub takes : (p : Layout) (seat : ℕ) (v : SeatView) (b : BucketAt) (k : ℕ) → v.turn ≡ None
-    → IsSpot p (turn_of b) → Contains v.numbers k
+    → IsWordId p (turn_of b) → Contains v.numbers k
     → MayWrite p seat v (turn_of b) (λ n. either (eqb n 0) (1 + k) n) (Rests p)
-    (λ n w. (n ≡ 0 → w ≡ turned v (Some b)) × (n ≢ 0 → w ≡ v))
+    (λ n w. (n ≡ 0 → w ≡ under_turn v (Some b)) × (n ≢ 0 → w ≡ v))
 takes p seat v b k idle low mine models old views r at =
     elim (cases_eq (old (turn_of b)) 0) [
       | inl free ↦ record {
-        view = turned v (Some b);
+        view = under_turn v (Some b);
         rule = λ new e. (taken p seat v b models old views r at new k idle low mine free e).0;
         event = λ new e. (taken p seat v b models old views r at new k idle low mine free e).1;
         same = record { alive = refl; plan = refl; models = refl; numbers = refl };
@@ -132,9 +132,9 @@ takes p seat v b k idle low mine models old views r at =
     ]
 
 pub leaves : (p : Layout) (seat : ℕ) (v : SeatView) (b : BucketAt) → v.turn ≡ Some b
-    → MayWrite p seat v (turn_of b) (λ _. 0) (Rests p) (λ _ w. w ≡ turned v None)
+    → MayWrite p seat v (turn_of b) (λ _. 0) (Rests p) (λ _ w. w ≡ under_turn v None)
 leaves p seat v b has models old views r at = record {
-  view = turned v None;
+  view = under_turn v None;
   rule = λ new e. (left p seat v b models old views r at new has e).0;
   event = λ new e. (left p seat v b models old views r at new has e).1;
   same = record { alive = refl; plan = refl; models = refl; numbers = refl };

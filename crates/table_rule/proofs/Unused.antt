@@ -2,13 +2,13 @@
 use Rattle.std.proofs.Common.{◌≡◌, ◌≢◌, ◌⊎◌, ℕ, ◌<◌, ◌≤◌, ap, ◌∙◌, inl, inr, arith}
 use Rattle.std.proofs.lemmas.Bool.{cases_lt}
 use Rattle.node_words.specs.declared.shapes.names.Name.{Name}
-use Rattle.core_laws.specs.places.Spots.{Spot, Used, Book}
+use Rattle.core_laws.specs.places.WordIds.{WordId, Used, Book}
 use Rattle.table_rule.specs.Reading.{Wrote, book_of}
-use Rattle.table_rule.specs.Views.{BucketAt, bucket_of, spot_same}
-use Rattle.table_rule.specs.Turning.{used_of, UnusedAreFree}
+use Rattle.table_rule.specs.Views.{BucketAt, bucket_of, word_id_same}
+use Rattle.table_rule.specs.TurnRules.{used_of, UnusedAreFree}
 
 -- a word that is neither a book nor a number of used slots
-pub unused_else : (old new : Spot → ℕ) (x : Spot) (n : ℕ) → Wrote old x n new
+pub unused_else : (old new : WordId → ℕ) (x : WordId) (n : ℕ) → Wrote old x n new
     → ((b : BucketAt) → used_of b ≢ x)
     → ((b : BucketAt) (slot : ℕ) → Book b.level b.bucket slot ≢ x)
     → UnusedAreFree old → UnusedAreFree new
@@ -17,7 +17,7 @@ unused_else old new x n wrote used book free b slot le =
     ∙ free b slot (let e = wrote.others (used_of b) (used b) in omega arith)
 
 -- a live entry's slot was used
-pub used_where_live : (mem : Spot → ℕ) (n : Name) → UnusedAreFree mem → 0 < mem (book_of n)
+pub used_where_live : (mem : WordId → ℕ) (n : Name) → UnusedAreFree mem → 0 < mem (book_of n)
     → n.slot < mem (used_of (bucket_of n))
 used_where_live mem n free live = elim (cases_lt n.slot (mem (used_of (bucket_of n)))) [
   | inl low ↦ low
@@ -25,7 +25,7 @@ used_where_live mem n free live = elim (cases_lt n.slot (mem (used_of (bucket_of
 ]
 
 -- the slot of a book that is one of the used ones
-one_slot : (old : Spot → ℕ) (b : BucketAt) (slot : ℕ) (n : Name)
+one_slot : (old : WordId → ℕ) (b : BucketAt) (slot : ℕ) (n : Name)
     → Book b.level b.bucket slot ≡ book_of n → old (used_of b) ≤ slot
     → n.slot < old (used_of (bucket_of n)) → ⊥
 one_slot old b slot n e high low =
@@ -36,12 +36,12 @@ one_slot old b slot n e high low =
     let used = ap old same in absurd (omega arith)
 
 -- a book of a used slot, or one that becomes 0
-pub unused_book : (old new : Spot → ℕ) (n : Name) (k : ℕ) → Wrote old (book_of n) k new
+pub unused_book : (old new : WordId → ℕ) (n : Name) (k : ℕ) → Wrote old (book_of n) k new
     → (k ≡ 0) ⊎ (n.slot < old (used_of (bucket_of n))) → UnusedAreFree old → UnusedAreFree new
 unused_book old new n k wrote may free b slot le =
     let used : new (used_of b) ≡ old (used_of b) =
     wrote.others (used_of b) (λ e. (let no : ⊥ = cc in no)) in
-    elim (spot_same (Book b.level b.bucket slot) (book_of n)) [
+    elim (word_id_same (Book b.level b.bucket slot) (book_of n)) [
       | no other ↦ wrote.others (Book b.level b.bucket slot) other ∙ free b slot (omega arith)
       | yes e ↦ elim may [
         | inl none ↦ ap new e ∙ wrote.here ∙ none
@@ -50,11 +50,11 @@ unused_book old new n k wrote may free b slot le =
     ]
 
 -- a number of used slots that grows
-pub unused_more : (old new : Spot → ℕ) (b : BucketAt) (n : ℕ) → Wrote old (used_of b) n new
+pub unused_more : (old new : WordId → ℕ) (b : BucketAt) (n : ℕ) → Wrote old (used_of b) n new
     → old (used_of b) ≤ n → UnusedAreFree old → UnusedAreFree new
 unused_more old new b n wrote more free c slot le =
     wrote.others (Book c.level c.bucket slot) (λ e. (let no : ⊥ = cc in no))
-    ∙ free c slot (elim (spot_same (used_of c) (used_of b)) [
+    ∙ free c slot (elim (word_id_same (used_of c) (used_of b)) [
       | yes e ↦ (let here = ap new e ∙ wrote.here in let was = ap old e in omega arith)
       | no other ↦ (let same = wrote.others (used_of c) other in omega arith)
     ])

@@ -4,11 +4,11 @@ use Rattle.std.specs.List.{slice_get}
 use Rattle.std.proofs.lemmas.Bool.{cases_eq}
 use Rattle.vox_read.specs.Contents.{Content}
 use Rattle.node_words.specs.Plans.{Layout}
-use Rattle.core_laws.specs.places.Spots.{Spot, LogTurn, LogLength, Version, Sessions, Book}
+use Rattle.core_laws.specs.places.WordIds.{WordId, LogTurn, LogLength, Version, Sessions, Book}
 use Rattle.core_laws.specs.Events.{Rests}
 use Rattle.table_rule.specs.Reading.{Wrote}
-use Rattle.table_rule.specs.Views.{SeatView, BucketAt, known_at, spot_same}
-use Rattle.table_rule.specs.Turning.{IsOf, used_of}
+use Rattle.table_rule.specs.Views.{SeatView, BucketAt, known_at, word_id_same}
+use Rattle.table_rule.specs.TurnRules.{IsOf, used_of}
 use Rattle.table_rule.specs.Rules.{KeepsRule, table_state, MayWrite}
 use Rattle.table_rule.proofs.KnownWords.{known_now, known_else, known_cases}
 use Rattle.table_rule.proofs.PartA.{word_step, words_step, same_seat}
@@ -19,13 +19,13 @@ use Rattle.table_rule.proofs.Loads.{entries_rest, log_rests}
 use Rattle.table_rule.proofs.Unused.{unused_more}
 
 -- these words, and that so many slots of the bucket from this one on are free
-free_books : BucketAt → ℕ → ℕ → List (Spot × ℕ) → List (Spot × ℕ)
+free_books : BucketAt → ℕ → ℕ → List (WordId × ℕ) → List (WordId × ℕ)
 free_books b from zero words = words
 free_books b from (suc n) words =
     (Book b.level b.bucket (from + n), 0) ∷ free_books b from n words
 
 -- they are so where the slots are free
-free_so : (mem : Spot → ℕ) (b : BucketAt) (from n : ℕ) (words : List (Spot × ℕ)) (y : Spot) (m : ℕ)
+free_so : (mem : WordId → ℕ) (b : BucketAt) (from n : ℕ) (words : List (WordId × ℕ)) (y : WordId) (m : ℕ)
     → ((slot : ℕ) → from ≤ slot → mem (Book b.level b.bucket slot) ≡ 0)
     → (known_at y words ≡ Some m → mem y ≡ m) → known_at y (free_books b from n words) ≡ Some m
     → mem y ≡ m
@@ -37,13 +37,13 @@ free_so mem b from (suc n) words y m free so is = ⊎_elim
     (λ t. free_so mem b from n words y m free so t.1)
     (known_cases (Book b.level b.bucket (from + n)) y 0 m (free_books b from n words) is)
 
-free_known : (b : BucketAt) (from n : ℕ) (words : List (Spot × ℕ)) (slot : ℕ) → from ≤ slot
+free_known : (b : BucketAt) (from n : ℕ) (words : List (WordId × ℕ)) (slot : ℕ) → from ≤ slot
     → slot < from + n → known_at (Book b.level b.bucket slot) (free_books b from n words) ≡ Some 0
 unfolding free_books
 free_known b from zero words slot low high = absurd (omega arith)
 free_known b from (suc n) words slot low high =
-    let x : Spot = Book b.level b.bucket (from + n) in
-    let more : List (Spot × ℕ) = free_books b from n words in
+    let x : WordId = Book b.level b.bucket (from + n) in
+    let more : List (WordId × ℕ) = free_books b from n words in
     elim (cases_eq slot (from + n)) [
       | inl e ↦
           ap (λ s. known_at (Book b.level b.bucket s) ((x, 0) ∷ more)) e ∙ known_now x 0 more
@@ -54,37 +54,37 @@ free_known b from (suc n) words slot low high =
     ]
 
 -- what was known stays known, where the books among it are 0
-free_stays : (b : BucketAt) (from n : ℕ) (words : List (Spot × ℕ)) (y : Spot) (m : ℕ)
+free_stays : (b : BucketAt) (from n : ℕ) (words : List (WordId × ℕ)) (y : WordId) (m : ℕ)
     → ((slot : ℕ) → from ≤ slot → y ≡ Book b.level b.bucket slot → 0 ≡ m)
     → known_at y words ≡ Some m → known_at y (free_books b from n words) ≡ Some m
 unfolding free_books
 free_stays b from zero words y m free is = is
 free_stays b from (suc n) words y m free is =
-    let x : Spot = Book b.level b.bucket (from + n) in
-    let more : List (Spot × ℕ) = free_books b from n words in
-    elim (spot_same y x) [
+    let x : WordId = Book b.level b.bucket (from + n) in
+    let more : List (WordId × ℕ) = free_books b from n words in
+    elim (word_id_same y x) [
       | yes e ↦
           ap (λ z. known_at z ((x, 0) ∷ more)) e
           ∙ (known_now x 0 more ∙ ap Some (free (from + n) (omega arith) e))
       | no other ↦ known_else x y 0 more other ∙ free_stays b from n words y m free is
     ]
 
-module _ (p : Layout) (models : List Content) (old : Spot → ℕ) (views : List SeatView) (seat : ℕ)
+module _ (p : Layout) (models : List Content) (old : WordId → ℕ) (views : List SeatView) (seat : ℕ)
     (v : SeatView) (b : BucketAt) (has : v.turn ≡ Some b) (r : KeepsRule p models old views)
     (at : slice_get views seat ≡ Some v) where
   abbrev k : ℕ
   k = old (used_of b)
 
-  abbrev counted : List (Spot × ℕ)
+  abbrev counted : List (WordId × ℕ)
   counted = (used_of b, k) ∷ v.words
 
-  abbrev learned : List (Spot × ℕ)
+  abbrev learned : List (WordId × ℕ)
   learned = free_books b k (p.cap - k) counted
 
   abbrev w : SeatView
   w = record v { words = learned }
 
-  knows : (c : BucketAt) (y : Spot) (m : ℕ) → v.turn ≡ Some c → IsOf c y
+  knows : (c : BucketAt) (y : WordId) (m : ℕ) → v.turn ≡ Some c → IsOf c y
       → known_at y learned ≡ Some m → old y ≡ m
   knows c y m h of is =
       free_so old b k (p.cap - k) counted y m (λ slot le. r.turns.unused b slot le)
@@ -94,7 +94,7 @@ module _ (p : Layout) (models : List Content) (old : Spot → ℕ) (views : List
       (known_cases (used_of b) y k m v.words l)) is
 
   -- a known book of an unused slot is 0
-  book_known : (x : Spot) (n slot : ℕ) → known_at x v.words ≡ Some n → k ≤ slot
+  book_known : (x : WordId) (n slot : ℕ) → known_at x v.words ≡ Some n → k ≤ slot
       → x ≡ Book b.level b.bucket slot → 0 ≡ n
   book_known x n slot is le e =
       let so =
@@ -102,8 +102,8 @@ module _ (p : Layout) (models : List Content) (old : Spot → ℕ) (views : List
       (ap (λ z. known_at z v.words) (sym e) ∙ is) in
       sym (r.turns.unused b slot le) ∙ so
 
-  counted_stays : (x : Spot) (n : ℕ) → known_at x v.words ≡ Some n → known_at x counted ≡ Some n
-  counted_stays x n is = elim (spot_same x (used_of b)) [
+  counted_stays : (x : WordId) (n : ℕ) → known_at x v.words ≡ Some n → known_at x counted ≡ Some n
+  counted_stays x n is = elim (word_id_same x (used_of b)) [
     | yes e ↦
         ap (λ z. known_at z counted) e
         ∙ (known_now (used_of b) k v.words
@@ -143,7 +143,7 @@ pub counts_used : (p : Layout) (seat : ℕ) (v : SeatView) (b : BucketAt) → v.
     → MayWrite p seat v (used_of b) (λ k. k) (Rests p) (λ k w. Counted v b p.cap k w)
 counts_used p seat v b has models old views r at =
     let u : SeatView = w p models old views seat v b has r at in
-    let same = λ (new : Spot → ℕ) (wrote : Wrote old (used_of b) (old (used_of b)) new).
+    let same = λ (new : WordId → ℕ) (wrote : Wrote old (used_of b) (old (used_of b)) new).
     sym (same_mem old new (used_of b) wrote) in
     let all = rested p models old views seat v b has r at in
     record {
@@ -161,11 +161,11 @@ pub raises_used : (p : Layout) (seat : ℕ) (v : SeatView) (b : BucketAt) (numbe
     → v.turn ≡ Some b → known_at (used_of b) v.words ≡ Some number → number ≤ more
     → MayWrite p seat v (used_of b) (λ _. more) (Rests p) (λ _ w. w ≡ knowing v (used_of b) more)
 raises_used p seat v b number more has known le models old views r at =
-    let x : Spot = used_of b in
+    let x : WordId = used_of b in
     let w : SeatView = knowing v x more in
     let was : old x ≡ number = r.turns.known seat v at b x number has (refl, refl) known in
     let after : List SeatView = set views seat w in
-    let both : (new : Spot → ℕ) → Wrote old x more new → KeepsRule p models new after
+    let both : (new : WordId → ℕ) → Wrote old x more new → KeepsRule p models new after
     × Rests p (table_state p old views) (table_state p new after) =
     λ new wrote. quiet p models old new views seat v w r at
     (entries_same p models old new views seat v w r at x more wrote

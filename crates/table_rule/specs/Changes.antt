@@ -1,5 +1,5 @@
 -- What each kind of step makes of a view.
-use Rattle.std.specs.Prelude.{◌≡◌, ◌≢◌, ℕ, ◌+◌, ◌<◌, ◌≤◌, ◌⊎◌, Option, Some, List, [], ◌∷◌}
+use Rattle.std.specs.Prelude.{◌≡◌, ◌≢◌, ℕ, ◌+◌, ◌%◌, ◌^◌, ◌<◌, ◌≤◌, ◌⊎◌, Option, Some, List, [], ◌∷◌}
 use Rattle.node_words.specs.declared.shapes.names.Name.{Name}
 use Rattle.node_words.specs.shapes.Shape.{Shape, IsPart}
 use Rattle.node_words.specs.shapes.Tree.{Tree, LeafAt, node_at, root_of, child_of, shape_of}
@@ -11,39 +11,49 @@ use Rattle.node_words.specs.Keys.{bucket_of_key}
 use Rattle.node_words.specs.Plans.{Layout}
 use Rattle.core_laws.specs.places.KeyWords.{key_word}
 use Rattle.core_laws.specs.places.Names.{named}
-use Rattle.core_laws.specs.places.Spots.{Spot, Book, key_words, buckets_at}
+use Rattle.core_laws.specs.places.WordIds.{WordId, Book, key_words, buckets_at}
 use Rattle.core_laws.specs.Soundness.{FitsLevel}
 use Rattle.table_rule.specs.Reading.{book_of}
-use Rattle.table_rule.specs.Views.{SeatView, BucketAt, bucket_of, key_spot, known_at}
-use Rattle.table_rule.specs.Turning.{used_of}
-use Rattle.table_rule.specs.Telling.{tree_word}
+use Rattle.table_rule.specs.Views.{SeatView, BucketAt, bucket_of, key_word_id, known_at}
+use Rattle.table_rule.specs.Tags.{ShowsBook}
+use Rattle.table_rule.specs.TurnRules.{used_of}
+use Rattle.table_rule.specs.ViewFacts.{tree_word}
 
 -- a turn comes or goes: the view has a bucket's turn, or none, and knows no word
-abbrev pub turned : SeatView → Option BucketAt → SeatView
-turned v b = record v { turn = b; words = [] }
+abbrev pub under_turn : SeatView → Option BucketAt → SeatView
+under_turn v b = record v { turn = b; words = [] }
 
 -- a word is loaded, or stored in a free entry: it is known
-abbrev pub knowing : SeatView → Spot → ℕ → SeatView
+abbrev pub knowing : SeatView → WordId → ℕ → SeatView
 knowing v x n = record v { words = (x, n) ∷ v.words }
 
 -- the slots of the bucket from this one on are known to be free
-pub record AreFreeFrom (words : List (Spot × ℕ)) (b : BucketAt) (first cap : ℕ) : Type 0 where
+pub record AreFreeFrom (words : List (WordId × ℕ)) (b : BucketAt) (first cap : ℕ) : Type 0 where
   pub each : (slot : ℕ) → first ≤ slot → slot < cap
       → known_at (Book b.level b.bucket slot) words ≡ Some 0
 
 -- a load shows how many slots of the bucket were ever used, and that the others are free
 pub record Counted (v : SeatView) (b : BucketAt) (cap number : ℕ) (w : SeatView) : Type 0 where
-  pub words : List (Spot × ℕ)
+  pub words : List (WordId × ℕ)
   pub is : w ≡ record v { words = words }
-  pub stays : (x : Spot) (n : ℕ) → known_at x v.words ≡ Some n → known_at x words ≡ Some n
+  pub stays : (x : WordId) (n : ℕ) → known_at x v.words ≡ Some n → known_at x words ≡ Some n
   pub known : known_at (used_of b) words ≡ Some number
   pub free : AreFreeFrom words b number cap
 
 -- the slot of n is known to be one of those that were ever used
-pub record IsUsed (words : List (Spot × ℕ)) (n : Name) : Type 0 where
+pub record IsUsed (words : List (WordId × ℕ)) (n : Name) : Type 0 where
   pub number : ℕ
   pub known : known_at (used_of (bucket_of n)) words ≡ Some number
   pub inside : n.slot < number
+
+-- a book's load shows how many shares there are, and the words of the key whose tag it has
+pub record BookFound (v : SeatView) (n : Name) (book : ℕ) (w : SeatView) : Type 0 where
+  pub words : List (WordId × ℕ)
+  pub is : w ≡ record v { words = words }
+  pub stays : (x : WordId) (k : ℕ) → known_at x v.words ≡ Some k → known_at x words ≡ Some k
+  pub known : known_at (book_of n) words ≡ Some (book % 2 ^ 40)
+  pub shows : ShowsBook words n book
+  pub small : book % 2 ^ 40 < 2 ^ 39
 
 -- a load shows a full bucket
 abbrev pub meeting : SeatView → Wanted → SeatView
@@ -62,29 +72,29 @@ making v n held s = record v {
 }
 
 -- a word of the entry n is known that the key doesn't have
-pub record HasOther (words : List (Spot × ℕ)) (key : keys.Key) (n : Name) : Type 0 where
+pub record HasOther (words : List (WordId × ℕ)) (key : keys.Key) (n : Name) : Type 0 where
   pub word : ℕ
   pub inside : word < key_words n.level
   pub found : ℕ
-  pub known : known_at (key_spot n word) words ≡ Some found
+  pub known : known_at (key_word_id n word) words ≡ Some found
   pub other : found ≢ key_word key word
 
 -- the entry n is known to be free, or to have another key
-abbrev pub PassesEntry : List (Spot × ℕ) → keys.Key → Name → Type 0
+abbrev pub PassesEntry : List (WordId × ℕ) → keys.Key → Name → Type 0
 PassesEntry words key n = (known_at (book_of n) words ≡ Some 0) ⊎ HasOther words key n
 
 -- the first slots of the bucket are known to be free or to have other keys
-pub record PassesBelow (words : List (Spot × ℕ)) (key : keys.Key) (b : BucketAt)
+pub record PassesBelow (words : List (WordId × ℕ)) (key : keys.Key) (b : BucketAt)
     (slots : ℕ) : Type 0 where
   pub each : (slot : ℕ) → slot < slots → PassesEntry words key (named b.level b.bucket slot)
 
 -- the entry n is known to have this key
-pub record HasKeyWords (words : List (Spot × ℕ)) (key : keys.Key) (n : Name) : Type 0 where
+pub record HasKeyWords (words : List (WordId × ℕ)) (key : keys.Key) (n : Name) : Type 0 where
   pub each : (i : ℕ) → i < key_words n.level
-      → known_at (key_spot n i) words ≡ Some (key_word key i)
+      → known_at (key_word_id n i) words ≡ Some (key_word key i)
 
 -- each slot of the bucket is known to have a book that isn't 0
-pub record IsFullIn (words : List (Spot × ℕ)) (b : BucketAt) (cap : ℕ) : Type 0 where
+pub record IsFullIn (words : List (WordId × ℕ)) (b : BucketAt) (cap : ℕ) : Type 0 where
   pub each : (slot : ℕ) → slot < cap
       → (book : ℕ) × (known_at (Book b.level b.bucket slot) words ≡ Some book) × (0 < book)
 
@@ -115,7 +125,7 @@ pub record Published (v : SeatView) (n : Name) (key : keys.Key) (row : ℕ → T
 pub record Raised (v : SeatView) (n : Name) (book : ℕ) (w : SeatView) : Type 0 where
   pub tree : Tree
   pub root : root_of tree ≡ Some n
-  pub words : (i k : ℕ) → i < key_words n.level → known_at (key_spot n i) v.words ≡ Some k
+  pub words : (i k : ℕ) → i < key_words n.level → known_at (key_word_id n i) v.words ≡ Some k
       → k ≡ tree_word tree i
   pub is : w ≡ holding v n book (tree ∷ v.held)
 

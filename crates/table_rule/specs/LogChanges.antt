@@ -7,7 +7,7 @@ use Rattle.node_words.specs.shapes.Tree.{Tree, Gone, root_of, shape_of}
 use Rattle.node_words.specs.shapes.Weights.{weigh, weight_of}
 use Rattle.node_words.specs.Held.{IsHeld}
 use Rattle.node_words.specs.Plans.{Layout}
-use Rattle.core_laws.specs.places.Spots.{Spot, LogLength, Version}
+use Rattle.core_laws.specs.places.WordIds.{WordId, LogLength, Version}
 use Rattle.core_laws.specs.places.Words.{word_of_child}
 use Rattle.history_model.specs.declared.acts.Act.{Act}
 use Rattle.history_model.specs.declared.acts.Act.TheVariants.{Undo, Redo}
@@ -20,19 +20,19 @@ use Rattle.history_model.specs.Worlds.{World}
 use Rattle.core_laws.specs.contents.Aligned.{top, world_block}
 use Rattle.core_laws.specs.Making.{Makes}
 use Rattle.table_rule.specs.LogWords.{FitsFields}
-use Rattle.table_rule.specs.LogTelling.{number_seen, seen_has, IsShownUnmarked}
+use Rattle.table_rule.specs.LogFacts.{number_seen, seen_has, IsShownUnmarked}
 use Rattle.table_rule.specs.Views.{SeatView, known_at}
 
 -- the log's turn comes or goes: no word is known
-abbrev pub log_turned : SeatView → Bool → SeatView
-log_turned v has = record v { log = record v.log { turn = has; words = [] } }
+abbrev pub under_log_turn : SeatView → Bool → SeatView
+under_log_turn v has = record v { log = record v.log { turn = has; words = [] } }
 
 -- another session has the log's turn
 abbrev pub met_busy : SeatView → ℕ → SeatView
 met_busy v number = record v { log = record v.log { busy = number ∷ v.log.busy } }
 
 -- a word of the log is loaded, or stored behind its length: it is known
-abbrev pub log_knowing : SeatView → Spot → ℕ → SeatView
+abbrev pub log_knowing : SeatView → WordId → ℕ → SeatView
 log_knowing v x n = record v { log = record v.log { words = (x, n) ∷ v.log.words } }
 
 -- the log that is seen grows by a record

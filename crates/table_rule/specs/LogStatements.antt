@@ -7,18 +7,18 @@ use Rattle.node_words.specs.declared.shapes.names.Name.{Name}
 use Rattle.node_words.specs.shapes.Tree.{Tree, root_of}
 use Rattle.node_words.specs.shapes.Weights.{number_of_trees}
 use Rattle.node_words.specs.Plans.{Layout}
-use Rattle.core_laws.specs.places.Spots.{Spot, LogTurn, LogLength, Version}
+use Rattle.core_laws.specs.places.WordIds.{WordId, LogTurn, LogLength, Version}
 use Rattle.history_model.specs.declared.histories.Record.{Record}
 use Rattle.history_model.specs.declared.histories.Mark.{Mark}
 use Rattle.core_laws.specs.contents.Versions.{IsUnmarked}
 use Rattle.core_laws.specs.Events.{Rests}
 use Rattle.core_laws.specs.LogEvents.{Appends, Forgets}
-use Rattle.table_rule.specs.LogTelling.{number_seen, SeesAll, IsShownRoot}
-use Rattle.table_rule.specs.LogTurning.{IsOfLog}
+use Rattle.table_rule.specs.LogFacts.{number_seen, SeesAll, IsShownRoot}
+use Rattle.table_rule.specs.LogTurnRules.{IsOfLog}
 use Rattle.table_rule.specs.LogWords.{mark_of_words}
 use Rattle.table_rule.specs.Rules.{MayWrite, MayWriteAmong}
 use Rattle.table_rule.specs.Views.{SeatView, known_at}
-use Rattle.table_rule.specs.LogChanges.{log_turned, met_busy, log_knowing, with_seen_mark, with_found, HasNextWords, IsAppendable, Appended, Forgot, SawNext}
+use Rattle.table_rule.specs.LogChanges.{under_log_turn, met_busy, log_knowing, with_seen_mark, with_found, HasNextWords, IsAppendable, Appended, Forgot, SawNext}
 
 -- the log's turn is exchanged for 1 plus a number of the seat where it is 0: the turn comes, or the
 -- number of the other session that has it is noted, which is one of those that have numbers
@@ -26,18 +26,18 @@ abbrev pub LogTurnsAreTaken : Type 0
 LogTurnsAreTaken = (sessions : ℕ) (p : Layout) (seat : ℕ) (v : SeatView) (number : ℕ)
     → v.log.turn ≡ false → Contains v.numbers number
     → MayWriteAmong sessions p seat v LogTurn (λ n. either (eqb n 0) (1 + number) n) (Rests p)
-    (λ k w. (k ≡ 0 → w ≡ log_turned v true)
+    (λ k w. (k ≡ 0 → w ≡ under_log_turn v true)
     × ((other : ℕ) → k ≡ suc other → (w ≡ met_busy v other) × (other < sessions)
     × ¬ Contains v.numbers other))
 
 -- 0 is stored in the log's turn, which the seat has
 abbrev pub LogTurnsAreGivenBack : Type 0
 LogTurnsAreGivenBack = (p : Layout) (seat : ℕ) (v : SeatView) → v.log.turn ≡ true
-    → MayWrite p seat v LogTurn (λ _. 0) (Rests p) (λ k w. w ≡ log_turned v false)
+    → MayWrite p seat v LogTurn (λ _. 0) (Rests p) (λ k w. w ≡ under_log_turn v false)
 
 -- a word of the log is loaded under its turn: it is what was known of it
 abbrev pub LogWordsAreLoaded : Type 0
-LogWordsAreLoaded = (p : Layout) (seat : ℕ) (v : SeatView) (x : Spot) → v.log.turn ≡ true
+LogWordsAreLoaded = (p : Layout) (seat : ℕ) (v : SeatView) (x : WordId) → v.log.turn ≡ true
     → IsOfLog x
     → MayWrite p seat v x (λ n. n) (Rests p)
     (λ k w. (w ≡ log_knowing v x k)

@@ -1,6 +1,6 @@
 -- What a seat of the table knows of the log.
 use Rattle.std.specs.Prelude.{ℕ, Bool, false, List, []}
-use Rattle.core_laws.specs.places.Spots.{Spot}
+use Rattle.core_laws.specs.places.WordIds.{WordId}
 use Rattle.retain.specs.Mark.{Mark}
 use Rattle.retain.specs.Logs.{Log}
 use Rattle.retain.specs.Listing.{Accepted, Found}
@@ -11,7 +11,7 @@ use Rattle.retain.specs.Listing.{Accepted, Found}
 -- mark, and the numbers that it met in the turn's word
 pub record LogView : Type 0 where
   pub turn : Bool
-  pub words : List (Spot × ℕ)
+  pub words : List (WordId × ℕ)
   pub seen : Log
   pub taken : List Log
   pub records : List Accepted

@@ -4,7 +4,7 @@ use Rattle.vw_cell.specs.declared.cells.Cell.{Cell}
 use Rattle.vw_cell.specs.declared.boxes.Boxed.{Boxed}
 use Rattle.vw_cell.specs.declared.balls.Ball as balls
 use Rattle.node_words.specs.Plans.{Layout}
-use Rattle.core_laws.specs.places.Spots.{Spot, LogLength, Version, versions}
+use Rattle.core_laws.specs.places.WordIds.{WordId, LogLength, Version, versions}
 use Rattle.retain.specs.Act.{Act}
 use Rattle.retain.specs.TheVariants.{Fill, Erase, Ball, Carve, Copy, Stamp, Tint, Undo, Redo}
 use Rattle.retain.specs.TintAct.{TintAct}
@@ -77,7 +77,7 @@ record_of_words word = record {
 }
 
 -- the word of a version
-abbrev pub word_in : (Spot → ℕ) → ℕ → ℕ → ℕ
+abbrev pub word_in : (WordId → ℕ) → ℕ → ℕ → ℕ
 word_in mem v i = mem (Version v i)
 
 -- the mark that the last word of a version says, which was made at this length
@@ -90,7 +90,7 @@ mark_of_words v at who = record {
 }
 
 -- the first records, and the marks of the first versions
-unfoldable pub records_in : (Spot → ℕ) → ℕ → List Record
+unfoldable pub records_in : (WordId → ℕ) → ℕ → List Record
 records_in mem zero = []
 records_in mem (suc n) = records_in mem n ++ record_of_words (word_in mem (suc n)) ∷ []
 
@@ -98,12 +98,12 @@ abbrev pub if_marked : ℕ → ℕ → ℕ → List Mark
 if_marked v zero who = []
 if_marked v (suc at) who = mark_of_words v at who ∷ []
 
-unfoldable pub marks_in : (Spot → ℕ) → ℕ → List Mark
+unfoldable pub marks_in : (WordId → ℕ) → ℕ → List Mark
 marks_in mem zero = []
 marks_in mem (suc v) = marks_in mem v ++ if_marked v (mem (Version v 6)) (mem (Version v 7))
 
 -- the log: as many records as its length says, and the marks of all versions that there is room for
-abbrev pub log_in : Layout → (Spot → ℕ) → Log
+abbrev pub log_in : Layout → (WordId → ℕ) → Log
 log_in p mem = record {
   side = p.side;
   coloured = false;
@@ -113,7 +113,7 @@ log_in p mem = record {
 
 -- the first five words of each record are those that a log keeps of it, which say where the history
 -- then stands
-pub record IsLogWritten (mem : Spot → ℕ) : Type 0 where
+pub record IsLogWritten (mem : WordId → ℕ) : Type 0 where
   pub words : (n i : ℕ) → n < mem LogLength → i < 5
       → mem (Version (suc n) i) ≡ slice_index (log_words (records_in mem (suc n))
       (record_of_words (word_in mem (suc n)))) i

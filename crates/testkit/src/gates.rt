@@ -4,5 +4,5 @@ mod meetings;
 mod reached;
 mod turns;
 
-pub use meetings::{Meeting, Moment, Place, Rule};
+pub use meetings::{GatePoint, Meeting, Moment, Rule};
 pub use turns::Turns;

@@ -4,5 +4,5 @@
 mod gates;
 mod worlds;
 
-pub use gates::{Meeting, Moment, Place, Rule, Turns};
+pub use gates::{GatePoint, Meeting, Moment, Rule, Turns};
 pub use worlds::{Drawing, Found, Refusal, StoredWorld};

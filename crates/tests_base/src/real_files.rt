@@ -1,4 +1,5 @@
-//! The shelf over real files, in the folder that a test runs in. Each test removes what it made.
+//! The shelf over real files. Each test has a folder of its own below the one that it runs in, and
+//! takes it away whatever comes.
 use std::alloc::Global;
 use std::fs;
 use std::test::Fail;
@@ -14,6 +15,22 @@ fn numbered(alloc: Global, length: usize) -> Result<Vec<u8>, Fail> {
         bytes.push((place % 251) as u8)?;
     }
     Ok(bytes)
+}
+
+// Found is what is wanted; else how long both are, and where they part.
+fn is_wanted(name: &str, found: &[u8], want: &[u8]) -> Result<(), Fail> {
+    if found == want {
+        return Ok(());
+    }
+    let mut at: usize = 0;
+    for (there, wanted) in found.iter().zip(want) {
+        if there != wanted {
+            break;
+        }
+        at = at.saturating_add(1);
+    }
+    let (there, wanted) = (found.len(), want.len());
+    Err(Fail::new(format_args!("{name}: {there} bytes, wanted are {wanted}, the same up to {at}")))
 }
 
 /// How long a file is, the most bytes of a read, and whether it is read.
@@ -42,66 +59,103 @@ const READS: &[(usize, u64, bool)] = &[
     (LONG, 2 * LONG as u64, true),
 ];
 
-#[test]
-fn files_are_read(rt: HostRuntime) -> Result<(), Fail> {
-    let mut shelf = FileShelf::new(&rt);
-    let mut into = Vec::new(rt.alloc());
-    for &(length, limit, is_read) in READS {
-        let bytes = numbered(rt.alloc(), length)?;
-        fs::write(&rt, "there", bytes.as_slice())?;
-        if is_read {
-            assert_eq!(rt;
-                shelf.read("there", limit, &mut into),
-                Ok(()),
-                "{length} {limit}"
-            );
-            assert_eq!(rt; into.as_slice(), bytes.as_slice(), "{length} {limit}");
-        } else {
-            let answer = shelf.read("there", limit, &mut into);
-            assert_eq!(rt; answer, Err(ReadRefused::TooLong), "{length} {limit}");
-            assert!(rt; into.is_empty(), "{length} {limit}");
-        }
+// The answer to a read, and the bytes that came with it.
+fn is_answered(
+    answer: Result<(), ReadRefused>,
+    want: Result<(), ReadRefused>,
+    found: &[u8],
+    bytes: &[u8],
+) -> Result<(), Fail> {
+    if answer != want {
+        return Err(Fail::new(format_args!("{answer:?}, wanted is {want:?}")));
     }
-    fs::remove_file(&rt, "there")?;
+    is_wanted("there", found, bytes)
+}
+
+// Reads a file of this length by a shelf.
+fn is_read(rt: &HostRuntime, length: usize, limit: u64, fits: bool) -> Result<(), Fail> {
+    let bytes = numbered(rt.alloc(), length)?;
+    fs::write(rt, "files_are_read/there", bytes.as_slice())?;
+    let mut shelf = FileShelf::new(rt);
+    let mut into = Vec::new(rt.alloc());
+    let answer = shelf.read("files_are_read/there", limit, &mut into);
+    if fits {
+        is_answered(answer, Ok(()), into.as_slice(), bytes.as_slice())
+    } else {
+        is_answered(answer, Err(ReadRefused::TooLong), into.as_slice(), &[])
+    }
+}
+
+fn are_read(rt: &HostRuntime) -> Result<(), Fail> {
+    for &(length, limit, fits) in READS {
+        is_read(rt, length, limit, fits)?;
+    }
     Ok(())
 }
 
 #[test]
-fn a_file_is_no_folder(rt: HostRuntime) -> Result<(), Fail> {
-    let mut shelf = FileShelf::new(&rt);
+fn files_are_read(rt: HostRuntime) -> Result<(), Fail> {
+    fs::create_dir_all(&rt, "files_are_read")?;
+    let read = are_read(&rt);
+    let removed = fs::remove_dir_all(&rt, "files_are_read");
+    read?;
+    removed?;
+    Ok(())
+}
+
+// Reads a file as if it were a folder.
+fn is_no_folder(rt: &HostRuntime) -> Result<(), Fail> {
+    fs::write(rt, "a_file_is_no_folder/alone", b"bytes")?;
+    let mut shelf = FileShelf::new(rt);
     let mut into = Vec::new(rt.alloc());
-    fs::write(&rt, "alone", b"bytes")?;
-    assert_eq!(rt;
-        shelf.read("alone/in", 9, &mut into),
-        Err(ReadRefused::Failed)
-    );
-    fs::remove_file(&rt, "alone")?;
+    let answer = shelf.read("a_file_is_no_folder/alone/in", 9, &mut into);
+    is_answered(answer, Err(ReadRefused::Failed), into.as_slice(), &[])
+}
+
+#[test]
+fn a_file_is_no_folder(rt: HostRuntime) -> Result<(), Fail> {
+    fs::create_dir_all(&rt, "a_file_is_no_folder")?;
+    let read = is_no_folder(&rt);
+    let removed = fs::remove_dir_all(&rt, "a_file_is_no_folder");
+    read?;
+    removed?;
     Ok(())
 }
 
 /// Files that are written one after the other, and how long they are.
 const WRITES: &[(&str, usize)] = &[
-    ("a", 0),
-    ("b", 1),
-    ("c", LONG),
-    ("c", 64),
-    ("c", 65),
-    ("c", 0),
+    ("files_are_written/a", 0),
+    ("files_are_written/b", 1),
+    ("files_are_written/c", LONG),
+    ("files_are_written/c", 64),
+    ("files_are_written/c", 65),
+    ("files_are_written/c", 0),
 ];
+
+// Writes so many bytes by a shelf, and reads them back.
+fn is_written(rt: &HostRuntime, name: &str, length: usize) -> Result<(), Fail> {
+    let bytes = numbered(rt.alloc(), length)?;
+    let mut shelf = FileShelf::new(rt);
+    shelf.write(name, bytes.as_slice())?;
+    let found = fs::read(rt, name)?;
+    is_wanted(name, found.as_slice(), bytes.as_slice())
+}
+
+fn are_written(rt: &HostRuntime) -> Result<(), Fail> {
+    for &(name, length) in WRITES {
+        is_written(rt, name, length)?;
+    }
+    // later writes leave it alone
+    let found = fs::read(rt, "files_are_written/b")?;
+    is_wanted("files_are_written/b", found.as_slice(), b"\0")
+}
 
 #[test]
 fn files_are_written(rt: HostRuntime) -> Result<(), Fail> {
-    let mut shelf = FileShelf::new(&rt);
-    for &(name, length) in WRITES {
-        let bytes = numbered(rt.alloc(), length)?;
-        assert_eq!(rt; shelf.write(name, bytes.as_slice()), Ok(()), "at {length}");
-        let found = fs::read(&rt, name)?;
-        assert_eq!(rt; found.as_slice(), bytes.as_slice(), "at {length}");
-    }
-    // later writes leave it alone
-    assert_eq!(rt; fs::read(&rt, "b")?.as_slice(), b"\0".as_slice());
-    for name in ["a", "b", "c"] {
-        fs::remove_file(&rt, name)?;
-    }
+    fs::create_dir_all(&rt, "files_are_written")?;
+    let written = are_written(&rt);
+    let removed = fs::remove_dir_all(&rt, "files_are_written");
+    written?;
+    removed?;
     Ok(())
 }

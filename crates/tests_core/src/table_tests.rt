@@ -59,8 +59,8 @@ const MARK: Mark = Mark {
     line: 7,
 };
 
-/// A leaf of session 0 that comes, keeps the next out, and goes, in such a world. Before anything is
-/// appended there is nothing to undo.
+/// A leaf of session 0 that comes, keeps the next out, and goes, in such a world. Before anything
+/// is appended there is nothing to undo.
 const ONE_LEAF: [(Event, Reply); 5] = [
     (Event::Leaf(0, 1), Reply::Held(A)),
     (Event::Leaf(0, 2), Reply::Full(FULL)),

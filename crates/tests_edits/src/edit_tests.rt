@@ -1,5 +1,5 @@
 use crate::edited::{acts_done, floor, number_of_cells, stencil_of, world_of};
-use edit_stamp::{Shown, Stencil};
+use edit_stamp::{Stencil, StencilCover};
 use history_model::{Act, Question};
 use node_words::{Full, Plan};
 use std::alloc::Global;
@@ -403,15 +403,15 @@ fn stencils_of_two_sizes_never_agree(rt: HostRuntime) {
 
 /// Blocks of a world that has a model of two leaves at `PLACE`, the first filled and the second
 /// empty, and what is shown of its places there.
-const HALVES: &[(Cell, u8, Shown)] = &[
-    (PLACE, 0, Shown::Set),
-    (Cell { x: 8, y: 4, z: 4 }, 0, Shown::Unset),
-    (Cell { x: 6, y: 4, z: 4 }, 0, Shown::Either),
-    (Cell { x: 2, y: 4, z: 4 }, 0, Shown::Set),
-    (Cell { x: 9, y: 5, z: 5 }, 0, Shown::Unset),
-    (ORIGIN, 1, Shown::Set),
-    (Cell { x: 8, y: 0, z: 0 }, 1, Shown::Unset),
-    (ORIGIN, 2, Shown::Either),
+const HALVES: &[(Cell, u8, StencilCover)] = &[
+    (PLACE, 0, StencilCover::Set),
+    (Cell { x: 8, y: 4, z: 4 }, 0, StencilCover::Unset),
+    (Cell { x: 6, y: 4, z: 4 }, 0, StencilCover::Either),
+    (Cell { x: 2, y: 4, z: 4 }, 0, StencilCover::Set),
+    (Cell { x: 9, y: 5, z: 5 }, 0, StencilCover::Unset),
+    (ORIGIN, 1, StencilCover::Set),
+    (Cell { x: 8, y: 0, z: 0 }, 1, StencilCover::Unset),
+    (ORIGIN, 2, StencilCover::Either),
 ];
 
 // Appends the voxels of a leaf. Says whether there was memory.
@@ -434,18 +434,18 @@ fn half_filled(alloc: Global) -> Option<Stencil> {
     }
 }
 
-fn is_shown(found: Shown, wanted: Shown) -> bool {
+fn is_shown(found: StencilCover, wanted: StencilCover) -> bool {
     match (found, wanted) {
-        (Shown::Unset, Shown::Unset) => true,
-        (Shown::Set, Shown::Set) => true,
-        (Shown::Either, Shown::Either) => true,
+        (StencilCover::Unset, StencilCover::Unset) => true,
+        (StencilCover::Set, StencilCover::Set) => true,
+        (StencilCover::Either, StencilCover::Either) => true,
         _ => false,
     }
 }
 
-fn show_as(stencil: &Stencil, rows: &[(Cell, u8, Shown)]) -> bool {
+fn show_as(stencil: &Stencil, rows: &[(Cell, u8, StencilCover)]) -> bool {
     for &(at, level, wanted) in rows {
-        if level > 10 || !is_shown(stencil.shown(PLACE, at, level), wanted) {
+        if level > 10 || !is_shown(stencil.coverage(PLACE, at, level), wanted) {
             return false;
         }
     }

@@ -38,10 +38,10 @@ impl TurnStore {
 }
 
 impl Blocks for TurnStore {
-    ghost use Rattle.one_store.specs.Known.{known_seen};
+    ghost use Rattle.one_store.specs.Known.{known_state};
     ghost use Rattle.one_store.specs.Steps.{SparesRoots, spares_itself, spares_on};
 
-    ghost seen = { λ s. known_seen s.store };
+    ghost seen = { λ s. known_state s.store };
 
     ghost rests = { λ a b. SparesRoots a.store b.store };
 

@@ -143,8 +143,8 @@ const PLACE: &[u8] =
 
 const PALETTE: [u8; 1024] = [0xee; 1024];
 
-// The chunks of a file as an editor writes it: a size of 2 1 1, two voxels of the colours 79 and 80,
-// a scene, a layer, a palette and a material.
+// The chunks of a file as an editor writes it: a size of 2 1 1, two voxels of the colours 79 and
+// 80, a scene, a layer, a palette and a material.
 const SCENE: &[(&[u8], &[u8])] = &[
     (b"SIZE", b"\x02\0\0\0\x01\0\0\0\x01\0\0\0"),
     (b"XYZI", b"\x02\0\0\0\0\0\0\x4f\x01\0\0\x50"),

@@ -3,7 +3,7 @@
 use crate::calls::{ONE, ends, ends_by, has, holds, lacks};
 use std::alloc::Global;
 use std::test::Fail;
-use testkit::{Place, Rule};
+use testkit::{GatePoint, Rule};
 use vw_io::{MemoryShelf, Shelf};
 
 /// A model of 3 x 1 x 1 cells whose first two are set, in a group of two movers: the first moves it
@@ -72,7 +72,7 @@ const ANSWERS: &str =
     "1 @2 count 4\n2 @2 set\n3 @2 set\n4 @2 set\n5 @2 set\n6 @2 bounds 0 0 1 12 1 2\n";
 
 // The scene's script has its last answer, on line 2, before the questions begin.
-const IN_TURN: &[Rule] = &[((1, 1, Place::Before), (0, 2, Place::After))];
+const IN_TURN: &[Rule] = &[((1, 1, GatePoint::Before), (0, 2, GatePoint::After))];
 
 #[test]
 fn what_was_written_builds_the_scene(rt: HostRuntime) -> Result<(), Fail> {

@@ -11,12 +11,12 @@ use Rattle.node_words.specs.shapes.Tree.{Tree}
 use Rattle.node_words.specs.shapes.Weights.{number_of_trees, weigh}
 use Rattle.node_words.specs.Gathering.{MayHold}
 use Rattle.node_words.specs.Held.{SameHeld}
-use Rattle.edit_walk.specs.blocks.Blocks.{GoesBack}
+use Rattle.edit_walk.specs.blocks.Blocks.{ReturnsShare}
 use Rattle.version_log.specs.Roots.{GetsRoot}
 use Rattle.node_table.specs.Begins.{AreNewPasses, terms_of}
-use Rattle.node_table.specs.Seen.{PassSeen}
+use Rattle.node_table.specs.TableStates.{PassState}
 use Rattle.session.specs.Resting.{IsAtRest}
-use Rattle.session.specs.Seen.{WorldSeen}
+use Rattle.session.specs.SessionWorlds.{SessionWorld}
 use Rattle.tests_sessions.specs.Free.{IsFree}
 
 no_trees : number_of_trees [] ≡ 0
@@ -28,14 +28,14 @@ few_none held none =
     subst (λ (ts : List Tree). number_of_trees ts ≤ 3900) (sym none)
     (let zero = no_trees in omega arith)
 
-pub few_free : (t : WorldSeen) (s : PassSeen) → IsFree t s → number_of_trees s.view.held ≤ 3900
+pub few_free : (t : SessionWorld) (s : PassState) → IsFree t s → number_of_trees s.view.held ≤ 3900
 few_free t s free = few_none s.view.held free.held
 
 none_held : (held : List Tree) → weigh (λ _. 1) held ≡ 0 → held ≡ []
 none_held [] e = refl
 none_held (t ∷ held) e = absurd (let more = weigh-cons (λ _. 1) t held in omega arith)
 
-pub still_free : (t : WorldSeen) (s z : PassSeen) → IsFree t s → IsAtRest t.table z
+pub still_free : (t : SessionWorld) (s z : PassState) → IsFree t s → IsAtRest t.table z
     → SameHeld s.view.held z.view.held → IsFree t z
 still_free t s z free rest same =
     record {
@@ -45,7 +45,7 @@ still_free t s z free rest same =
     }
 
 -- a version was pinned, and the same is held since
-pub pinned_few : (t : WorldSeen) (s z w : PassSeen) (root : Option Name) → IsFree t s
+pub pinned_few : (t : SessionWorld) (s z w : PassState) (root : Option Name) → IsFree t s
     → GetsRoot s.view.held root z.view.held → w.view.held ≡ z.view.held
     → number_of_trees w.view.held ≤ 3901
 pinned_few t s z w root free g same =
@@ -64,9 +64,9 @@ still_held held more now root g same =
     (record { weighs = λ f. (let e = g.loses.weighs f in omega arith) })
 
 -- and its root goes back
-pub unpinned_free : (t : WorldSeen) (s z w x : PassSeen) (root : Option Name) → IsFree t s
+pub unpinned_free : (t : SessionWorld) (s z w x : PassState) (root : Option Name) → IsFree t s
     → GetsRoot s.view.held root z.view.held → w.view.held ≡ z.view.held
-    → GoesBack root w.view.held x.view.held → IsAtRest t.table x → IsFree t x
+    → ReturnsShare root w.view.held x.view.held → IsAtRest t.table x → IsFree t x
 unpinned_free t s z w x root free g same back rest =
     let gone = back g.tree g.name
     (still_held s.view.held z.view.held w.view.held root g same)
@@ -79,7 +79,7 @@ unpinned_free t s z w x root free g same back rest =
     let none : number_of_trees s.view.held ≡ 0 = ap number_of_trees free.held ∙ no_trees in
     record { rest = rest; held = none_held x.view.held (omega arith) }
 
-pub all_free : (t : WorldSeen) (passes : List PassSeen)
+pub all_free : (t : SessionWorld) (passes : List PassState)
     → AreNewPasses t.table.id (terms_of t.table) passes
     → All (IsAtRest t.table) passes → All (IsFree t) passes
 all_free t passes new rest = λ k d lt.
@@ -88,26 +88,26 @@ all_free t passes new rest = λ k d lt.
       held = (new.each k (get_or passes k d) (slice_get-get_or passes k d lt)).held;
     }
 
-pub more_free : (t : WorldSeen) (passes more : List PassSeen) (s : PassSeen)
+pub more_free : (t : SessionWorld) (passes more : List PassState) (s : PassState)
     → more ≡ passes ++ s ∷ [] → All (IsFree t) passes → IsFree t s → All (IsFree t) more
 more_free t passes more s is free one =
-    subst (λ (ps : List PassSeen). All (IsFree t) ps) (sym is)
+    subst (λ (ps : List PassState). All (IsFree t) ps) (sym is)
     (All-push (IsFree t) passes s free one)
 
 -- the last one is free, and those before it
-whole_free : (t : WorldSeen) (passes rest : List PassSeen) (s : PassSeen)
+whole_free : (t : SessionWorld) (passes rest : List PassState) (s : PassState)
     → passes ≡ rest ++ s ∷ [] → All (IsFree t) passes → All (IsFree t) (rest ++ s ∷ [])
-whole_free t passes rest s is free = subst (λ (ps : List PassSeen). All (IsFree t) ps) is free
+whole_free t passes rest s is free = subst (λ (ps : List PassState). All (IsFree t) ps) is free
 
-pub rest_free : (t : WorldSeen) (passes rest : List PassSeen) (s : PassSeen)
+pub rest_free : (t : SessionWorld) (passes rest : List PassState) (s : PassState)
     → passes ≡ rest ++ s ∷ [] → All (IsFree t) passes → All (IsFree t) rest
 rest_free t passes rest s is free = λ k d lt.
-    subst (λ (p : PassSeen). IsFree t p) (get_or_append_left rest (s ∷ []) d k lt)
+    subst (λ (p : PassState). IsFree t p) (get_or_append_left rest (s ∷ []) d k lt)
     (whole_free t passes rest s is free k d (omega (arith, length-append rest (s ∷ []))))
 
-pub last_free : (t : WorldSeen) (passes rest : List PassSeen) (s : PassSeen)
+pub last_free : (t : SessionWorld) (passes rest : List PassState) (s : PassState)
     → passes ≡ rest ++ s ∷ [] → All (IsFree t) passes → IsFree t s
 last_free t passes rest s is free =
-    subst (λ (p : PassSeen). IsFree t p) (get_or-append_seam rest s [] s)
+    subst (λ (p : PassState). IsFree t p) (get_or-append_seam rest s [] s)
     (whole_free t passes rest s is free (length rest) s
     (omega (arith, length-append rest (s ∷ []))))

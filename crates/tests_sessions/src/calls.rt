@@ -3,7 +3,7 @@ ghost use Rattle.std.specs.Prelude.{◌≡◌};
 ghost use Rattle.vw_cell.specs.Places.{FitsAt};
 ghost use Rattle.version_log.specs.Pins.{IsPinned};
 ghost use Rattle.session.specs.Resting.{IsAtRest};
-ghost use Rattle.session.specs.Seen.{side_seen};
+ghost use Rattle.session.specs.SessionWorlds.{side_seen};
 ghost use Rattle.tests_sessions.specs.Free.{IsFree};
 
 use crate::worlds::{cell_within, within};
@@ -59,7 +59,7 @@ fn cells_of(answer: Answer) -> u64 {
 
 fn carries_out<R: Wait, G: Gate>(
     rt: &R,
-    world: &World<'_>,
+    world: &World,
     s: &mut Session,
     line: u32,
     act: &Act,
@@ -77,7 +77,7 @@ fn carries_out<R: Wait, G: Gate>(
 
 fn fills_once<R: Wait, G: Gate>(
     rt: &R,
-    world: &World<'_>,
+    world: &World,
     s: &mut Session,
     line: u32,
     part: Boxed,
@@ -97,7 +97,7 @@ fn fills_once<R: Wait, G: Gate>(
 // The least and the greatest count. Before each it passes the gate, as between a pin and a commit,
 // by the number of a line of its own.
 fn counts_pinned<G: Gate>(
-    world: &World<'_>,
+    world: &World,
     s: &mut Session,
     p: &Pinned,
     line: u32,
@@ -126,7 +126,7 @@ fn counts_pinned<G: Gate>(
 
 fn counts<R: Wait, G: Gate>(
     rt: &R,
-    world: &World<'_>,
+    world: &World,
     s: &mut Session,
     line: u32,
     version: Option<u32>,
@@ -159,7 +159,7 @@ fn colour_told(asked: AskedAt) -> Told {
 
 fn asks_colour<R: Wait>(
     rt: &R,
-    world: &World<'_>,
+    world: &World,
     s: &mut Session,
     version: Option<u32>,
     cell: Cell,
@@ -179,7 +179,7 @@ fn asks_colour<R: Wait>(
     }
 }
 
-fn forgets<R: Wait>(rt: &R, world: &World<'_>, s: &mut Session, line: u32, version: u32) -> Told
+fn forgets<R: Wait>(rt: &R, world: &World, s: &mut Session, line: u32, version: u32) -> Told
     requires { IsFree world.now s.old }
     ensures { IsFree world.now s.new }
 {
@@ -189,7 +189,7 @@ fn forgets<R: Wait>(rt: &R, world: &World<'_>, s: &mut Session, line: u32, versi
 /// What the session is told by this call, as that of this line.
 pub fn tell<R: Wait, G: Gate>(
     rt: &R,
-    world: &World<'_>,
+    world: &World,
     s: &mut Session,
     line: u32,
     call: Call,
@@ -218,7 +218,7 @@ pub type Row = (Call, Told);
 /// How many calls, line by line from line 1 on, are told what stands beside them.
 pub fn answered<R: Wait, G: Gate>(
     rt: &R,
-    world: &World<'_>,
+    world: &World,
     s: &mut Session,
     rows: &[Row],
     gate: &G,

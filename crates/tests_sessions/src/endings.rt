@@ -15,7 +15,7 @@ use std::sync::Wait;
 use std::test::Fail;
 
 // What the world leaves, with all of its sessions.
-fn closed(alloc: Global, world: World<'_>, sessions: Vec<Session>) -> Option<Ended>
+fn closed(alloc: Global, world: World, sessions: Vec<Session>) -> Option<Ended>
     requires { All (IsFree world) sessions.items }
 {
     match world.close(alloc, sessions) {
@@ -40,7 +40,7 @@ fn closed(alloc: Global, world: World<'_>, sessions: Vec<Session>) -> Option<End
 // The sessions and one more.
 fn with_one_more(
     alloc: Global,
-    world: &World<'_>,
+    world: &World,
     mut sessions: Vec<Session>,
     one: Session,
 ) -> Option<Vec<Session>>
@@ -64,7 +64,7 @@ fn with_one_more(
 // How many sessions the world has, by what refused it without this one, and what it leaves with it.
 fn closed_late(
     alloc: Global,
-    world: World<'_>,
+    world: World,
     sessions: Vec<Session>,
     one: Session,
 ) -> Option<(u16, Ended)>
@@ -127,7 +127,7 @@ fn left_by(ended: &Ended) -> Left {
 fn ends<R: Wait>(
     rt: &R,
     alloc: Global,
-    world: World<'_>,
+    world: World,
     mut sessions: Vec<Session>,
     rows: &[Row],
 ) -> Option<(u32, u16, Left)>
@@ -157,7 +157,7 @@ fn ended_by<R: Wait>(
     rows: &[Row],
 ) -> Result<Option<(u32, u16, Left)>, Fail> {
     let models = no_models(alloc);
-    let (world, sessions) = world_begun(alloc, begun, &models, 2)?;
+    let (world, sessions) = world_begun(alloc, begun, models, 2)?;
     Ok(ends(rt, alloc, world, sessions, rows))
 }
 

@@ -19,7 +19,7 @@ fn meet<R: Threads + Wait + Sync>(
     second: &[Row],
 ) -> Result<(u32, bool), Fail> {
     let models = no_models(alloc);
-    let (world, sessions) = world_begun(alloc, PLAIN, &models, 2)?;
+    let (world, sessions) = world_begun(alloc, PLAIN, models, 2)?;
     let turns = Turns::new();
     let right = both_answered(rt, alloc, &world, sessions, first, second, &turns);
     Ok((right, turns.is_given_up()))

@@ -3,7 +3,7 @@ ghost use Rattle.std.specs.Prelude.{◌≡◌, ◌≤◌, All};
 ghost use Rattle.vw_cell.specs.Places.{FitsAt};
 ghost use Rattle.version_log.specs.Pins.{IsPinned};
 ghost use Rattle.session.specs.Resting.{IsAtRest};
-ghost use Rattle.session.specs.Seen.{side_seen};
+ghost use Rattle.session.specs.SessionWorlds.{side_seen};
 ghost use Rattle.tests_sessions.specs.Free.{IsFree};
 
 use crate::calls::Call::{Act, Count, Forget};
@@ -52,7 +52,7 @@ const SET: [Voxel; 2] = [
 /// Whether the pinned version has just these cells in its part.
 pub fn lists(
     alloc: Global,
-    world: &World<'_>,
+    world: &World,
     s: &mut Session,
     p: &Pinned,
     part: Boxed,
@@ -76,7 +76,7 @@ pub fn lists(
 }
 
 // Whether what was pinned counts and lists so.
-fn is_kept(alloc: Global, world: &World<'_>, s: &mut Session, p: &Pinned, part: Boxed) -> bool
+fn is_kept(alloc: Global, world: &World, s: &mut Session, p: &Pinned, part: Boxed) -> bool
     requires rest { IsAtRest world.now.table s.old }
     requires pinned { IsPinned s.old.view p.now }
     requires fits { FitsAt part.at part.size (side_seen world.now) }
@@ -94,7 +94,7 @@ fn is_kept(alloc: Global, world: &World<'_>, s: &mut Session, p: &Pinned, part: 
 fn outlives<R: Wait>(
     rt: &R,
     alloc: Global,
-    world: &World<'_>,
+    world: &World,
     a: &mut Session,
     b: &mut Session,
     part: Boxed,
@@ -144,7 +144,7 @@ const MEETS_A_MARK: &[Row] = &[GONE];
 fn forgotten_beside<R: Wait>(
     rt: &R,
     alloc: Global,
-    world: &World<'_>,
+    world: &World,
     a: &mut Session,
     b: &mut Session,
 ) -> (bool, u32)
@@ -165,7 +165,7 @@ fn forgotten_beside<R: Wait>(
 fn both_forgotten_beside<R: Wait>(
     rt: &R,
     alloc: Global,
-    world: &World<'_>,
+    world: &World,
     mut sessions: Vec<Session>,
 ) -> (bool, u32)
     requires { All (IsFree world.now) sessions.items }
@@ -189,7 +189,7 @@ fn both_forgotten_beside<R: Wait>(
 #[test]
 fn a_pin_outlives_a_mark(rt: HostRuntime) -> Result<(), Fail> {
     let models = no_models(rt.alloc());
-    let (world, sessions) = world_begun(rt.alloc(), PLAIN, &models, 2)?;
+    let (world, sessions) = world_begun(rt.alloc(), PLAIN, models, 2)?;
     assert_eq!(rt;
         both_forgotten_beside(&rt, rt.alloc(), &world, sessions),
         (true, 5)

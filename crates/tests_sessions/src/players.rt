@@ -12,14 +12,14 @@ use std::sync::Wait;
 use std::thread::Threads;
 
 /// A session that makes its calls, and how many of them were told what stands beside them.
-pub struct Player<'a, 'm> {
-    pub world: &'a World<'m>,
+pub struct Player<'a> {
+    pub world: &'a World,
     pub session: Session,
     pub rows: &'a [Row],
     pub right: u32,
 }
 
-impl<'a, 'm, G: Gate> Worker<G> for Player<'a, 'm> {
+impl<'a, G: Gate> Worker<G> for Player<'a> {
     ghost use Rattle.tests_sessions.specs.Free.{IsFree};
 
     ghost may_run = { λ p. IsFree p.world.now p.session };
@@ -32,13 +32,13 @@ impl<'a, 'm, G: Gate> Worker<G> for Player<'a, 'm> {
 }
 
 // Session 0 makes the first calls, and each other the second ones.
-fn players_of<'a, 'm>(
+fn players_of<'a>(
     alloc: Global,
-    world: &'a World<'m>,
+    world: &'a World,
     mut sessions: Vec<Session>,
     first: &'a [Row],
     second: &'a [Row],
-) -> Option<Vec<Player<'a, 'm>>>
+) -> Option<Vec<Player<'a>>>
     requires { All (IsFree world.now) sessions.items }
     ensures { IfSome result (λ players. All (λ p. IsFree p.world.now p.session) players.items) }
 {
@@ -73,7 +73,7 @@ fn all_ran<R: Threads + Wait + Sync, G: Gate + Sync, W: Worker<G> + Send>(
 }
 
 // How many calls of all of them were right. Their sessions are given up.
-fn players_ended(mut players: Vec<Player<'_, '_>>) -> u32
+fn players_ended(mut players: Vec<Player<'_>>) -> u32
     requires { All (λ p. IsFree p.world.now p.session) players.items }
 {
     let mut right = 0u32;
@@ -96,7 +96,7 @@ fn players_ended(mut players: Vec<Player<'_, '_>>) -> u32
 pub fn both_answered<R: Threads + Wait + Sync, G: Gate + Sync>(
     rt: &R,
     alloc: Global,
-    world: &World<'_>,
+    world: &World,
     sessions: Vec<Session>,
     first: &[Row],
     second: &[Row],

@@ -23,7 +23,7 @@ use vw_cell::{Boxed, Cell};
 // where there is one, makes the second ones.
 fn rows_answered<R: Wait>(
     rt: &R,
-    world: &World<'_>,
+    world: &World,
     mut sessions: Vec<Session>,
     first: &[Row],
     second: &[Row],
@@ -47,11 +47,11 @@ pub fn answered_in<R: Wait>(
     rt: &R,
     alloc: Global,
     begun: Begun,
-    models: &Models,
+    models: Models,
     first: &[Row],
     second: &[Row],
 ) -> Result<u32, Fail>
-    requires { AreModels models.now }
+    requires { AreModels models }
 {
     let (world, sessions) = world_begun(alloc, begun, models, 2)?;
     Ok(rows_answered(rt, &world, sessions, first, second))
@@ -77,7 +77,7 @@ const GOES_BACK: &[Row] = &[
 fn undos_have_their_answers(rt: HostRuntime) -> Result<(), Fail> {
     let models = no_models(rt.alloc());
     assert_eq!(rt;
-        answered_in(&rt, rt.alloc(), PLAIN, &models, MAKES, GOES_BACK)?,
+        answered_in(&rt, rt.alloc(), PLAIN, models, MAKES, GOES_BACK)?,
         9
     );
     Ok(())
@@ -149,7 +149,7 @@ const MEETS_A_MARK: &[Row] = &[
 fn a_forgotten_version_is_refused(rt: HostRuntime) -> Result<(), Fail> {
     let models = no_models(rt.alloc());
     assert_eq!(rt;
-        answered_in(&rt, rt.alloc(), PLAIN, &models, FORGETS, MEETS_A_MARK)?,
+        answered_in(&rt, rt.alloc(), PLAIN, models, FORGETS, MEETS_A_MARK)?,
         18
     );
     Ok(())
@@ -192,7 +192,7 @@ fn a_full_bucket_is_told(rt: HostRuntime) -> Result<(), Fail> {
         ..PLAIN
     };
     assert_eq!(rt;
-        answered_in(&rt, rt.alloc(), small, &models, FILLS, FILLS_TOO)?,
+        answered_in(&rt, rt.alloc(), small, models, FILLS, FILLS_TOO)?,
         5
     );
     Ok(())
@@ -271,7 +271,7 @@ fn the_last_versions_alone_are_held(rt: HostRuntime) -> Result<(), Fail> {
     let models = no_models(rt.alloc());
     let last_two = Begun { keep: 2, ..PLAIN };
     assert_eq!(rt;
-        answered_in(&rt, rt.alloc(), last_two, &models, FALLS_OUT, HELD_LAST)?,
+        answered_in(&rt, rt.alloc(), last_two, models, FALLS_OUT, HELD_LAST)?,
         13
     );
     Ok(())

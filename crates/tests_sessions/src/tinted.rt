@@ -1,7 +1,7 @@
 //! Worlds whose cells have tints: their acts, the colours of versions, and what is listed of them.
 ghost use Rattle.std.specs.Prelude.{◌≡◌, All};
 ghost use Rattle.vw_cell.specs.Places.{FitsAt};
-ghost use Rattle.session.specs.Seen.{side_seen};
+ghost use Rattle.session.specs.SessionWorlds.{side_seen};
 ghost use Rattle.tests_sessions.specs.Free.{IsFree};
 
 use crate::calls::Call::{Act, Colour, Count, Same};
@@ -69,7 +69,7 @@ const GOES_BACK: &[Row] = &[
 fn a_cell_has_its_last_tint(rt: HostRuntime) -> Result<(), Fail> {
     let models = no_models(rt.alloc());
     assert_eq!(rt;
-        answered_in(&rt, rt.alloc(), TINTED, &models, GIVES_TINTS, GOES_BACK)?,
+        answered_in(&rt, rt.alloc(), TINTED, models, GIVES_TINTS, GOES_BACK)?,
         15
     );
     Ok(())
@@ -87,7 +87,7 @@ const WITHOUT_TINTS: &[Row] = &[
 fn a_cell_without_tints_has_colour_1(rt: HostRuntime) -> Result<(), Fail> {
     let models = no_models(rt.alloc());
     assert_eq!(rt;
-        answered_in(&rt, rt.alloc(), PLAIN, &models, WITHOUT_TINTS, &[])?,
+        answered_in(&rt, rt.alloc(), PLAIN, models, WITHOUT_TINTS, &[])?,
         4
     );
     Ok(())
@@ -114,14 +114,19 @@ const STAMPS: &[Row] = &[
         Told::Colour(2, 200),
     ),
     (Act(Stamp(0, NEXT)), Told::Outside),
+    (Act(Tint(TintAct::Stamp(1, NEXT))), Told::Outside),
+    (
+        Act(Tint(TintAct::Stamp(0, Cell { x: 7, y: 0, z: 0 }))),
+        Told::Outside,
+    ),
 ];
 
 #[test]
 fn a_stamp_gives_the_tints_of_its_model(rt: HostRuntime) -> Result<(), Fail> {
     let models = read_models(rt.alloc(), PAIR)?;
     assert_eq!(rt;
-        answered_in(&rt, rt.alloc(), TINTED, &models, STAMPS, &[])?,
-        6
+        answered_in(&rt, rt.alloc(), TINTED, models, STAMPS, &[])?,
+        8
     );
     Ok(())
 }
@@ -130,7 +135,7 @@ fn a_stamp_gives_the_tints_of_its_model(rt: HostRuntime) -> Result<(), Fail> {
 fn lists_version<R: Wait>(
     rt: &R,
     alloc: Global,
-    world: &World<'_>,
+    world: &World,
     s: &mut Session,
     version: u32,
     part: Boxed,
@@ -231,7 +236,7 @@ const LISTED: [Voxel; 5] = [
 ];
 
 // How many edits were made, and whether version 4 is listed so.
-fn listed_behind<R: Wait>(rt: &R, alloc: Global, world: &World<'_>, s: &mut Session) -> (u32, bool)
+fn listed_behind<R: Wait>(rt: &R, alloc: Global, world: &World, s: &mut Session) -> (u32, bool)
     requires { IsFree world.now s.old }
     ensures { IsFree world.now s.new }
 {
@@ -246,7 +251,7 @@ fn listed_behind<R: Wait>(rt: &R, alloc: Global, world: &World<'_>, s: &mut Sess
 fn listed_in<R: Wait>(
     rt: &R,
     alloc: Global,
-    world: &World<'_>,
+    world: &World,
     mut sessions: Vec<Session>,
 ) -> (u32, bool)
     requires { All (IsFree world.now) sessions.items }
@@ -264,7 +269,7 @@ fn listed_in<R: Wait>(
 #[test]
 fn cells_are_listed_with_their_tints(rt: HostRuntime) -> Result<(), Fail> {
     let models = no_models(rt.alloc());
-    let (world, sessions) = world_begun(rt.alloc(), TINTED, &models, 1)?;
+    let (world, sessions) = world_begun(rt.alloc(), TINTED, models, 1)?;
     assert_eq!(rt; listed_in(&rt, rt.alloc(), &world, sessions), (4, true));
     Ok(())
 }

@@ -2,7 +2,7 @@
 ghost use Rattle.std.specs.Prelude.{◌≤◌, All, IfOk, IfSome};
 ghost use Rattle.vw_cell.specs.Places.{FitsAt, IsInWorld};
 ghost use Rattle.vox_read.specs.Contents.{AreModels};
-ghost use Rattle.session.specs.Seen.{side_seen};
+ghost use Rattle.session.specs.SessionWorlds.{side_seen};
 ghost use Rattle.tests_sessions.specs.Free.{IsFree};
 
 use history_model::{Act, TintAct};
@@ -76,14 +76,14 @@ pub fn no_models(alloc: Global) -> Models
 }
 
 /// A world that is begun so, and its sessions.
-pub fn world_begun<'m>(
+pub fn world_begun(
     alloc: Global,
     begun: Begun,
-    models: &'m Models,
+    models: Models,
     sessions: u16,
-) -> Result<(World<'m>, Vec<Session>), Fail>
+) -> Result<(World, Vec<Session>), Fail>
     requires sessions { (1 ≤ sessions) × (sessions ≤ 64) }
-    requires models { AreModels models.now }
+    requires models { AreModels models }
     ensures { IfOk result (λ r. All (IsFree r.0) r.1.items) }
 {
     let side = Side::new(begun.side).ok_or("a side")?;
@@ -98,7 +98,7 @@ pub fn world_begun<'m>(
 }
 
 /// The box, where it lies in the world.
-pub fn within(world: &World<'_>, part: Boxed) -> Option<Boxed>
+pub fn within(world: &World, part: Boxed) -> Option<Boxed>
     ensures { IfSome result (λ b. FitsAt b.at b.size (side_seen world.now)) }
 {
     if world.fits(&Act::Fill(part)) {
@@ -111,7 +111,7 @@ pub fn within(world: &World<'_>, part: Boxed) -> Option<Boxed>
 }
 
 /// The cell, where it lies in the world.
-pub fn cell_within(world: &World<'_>, cell: Cell) -> Option<Cell>
+pub fn cell_within(world: &World, cell: Cell) -> Option<Cell>
     ensures { IfSome result (λ c. IsInWorld (side_seen world.now) c) }
 {
     let part = Boxed {
@@ -125,7 +125,7 @@ pub fn cell_within(world: &World<'_>, cell: Cell) -> Option<Cell>
 }
 
 /// The sessions are given up.
-pub fn sessions_ended(world: &World<'_>, mut sessions: Vec<Session>)
+pub fn sessions_ended(world: &World, mut sessions: Vec<Session>)
     requires { All (IsFree world.now) sessions.items }
 {
     while let Some(session) = sessions.pop() {

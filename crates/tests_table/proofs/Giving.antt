@@ -9,23 +9,23 @@ use Rattle.node_words.specs.Plans.{Layout}
 use Rattle.node_words.specs.declared.shares.Full.{Full}
 use Rattle.node_words.proofs.HeldLaws.{held_reached, gains_held, came_and_went}
 use Rattle.node_table.specs.Names.{IsName}
-use Rattle.node_table.specs.Spots.{Turn, IsSpot}
-use Rattle.table_rule.specs.Telling.{ViewTells}
+use Rattle.node_table.specs.WordIds.{Turn, IsWordId}
+use Rattle.table_rule.specs.ViewFacts.{ViewFacts}
 use Rattle.table_rule.specs.LogViews.{LogView}
 use Rattle.table_rule.specs.Views.{SeatView}
 use Rattle.node_table.specs.declared.lowering.Lowering.{Lowering}
 use Rattle.node_table.specs.declared.lowering.Lowering.TheVariants.{Left, Freed}
 use Rattle.node_table.specs.Lowers.{EndsLowered}
-use Rattle.node_table.specs.Seen.{TableSeen, PassSeen, BelongsTo}
+use Rattle.node_table.specs.TableStates.{TableState, PassState, BelongsTo}
 use Rattle.node_table.proofs.ReadLaws.{has_no_child}
 use Rattle.std.specs.List.{slice_get}
 use Rattle.node_table.specs.Begins.{AreNewPasses, terms_of}
 use Rattle.node_table.specs.Closing.{IsSpare}
-use Rattle.intern.specs.Leaves.{LeafCame, LeafRefused}
+use Rattle.intern.specs.Leaves.{InternsLeaf, LeafRefused}
 
 -- the bucket of a held name is one of the table's
-pub held_bucket : (t : TableSeen) (s : PassSeen) (n : Name) → BelongsTo t s → ViewTells s.view
-    → HoldsName s.view.held n → IsSpot t.plan (Turn n.level n.bucket)
+pub held_bucket : (t : TableState) (s : PassState) (n : Name) → BelongsTo t s → ViewFacts s.view
+    → HoldsName s.view.held n → IsWordId t.plan (Turn n.level n.bucket)
 held_bucket t s n of tells h =
     let is = subst (λ (p : Layout). IsName p n) of.plan
     (tells.names h.tree n (held_reached s.view.held h.tree h.is_held) h.root) in
@@ -38,7 +38,7 @@ no_row f t (suc k) none =
     omega (arith, no_row f t k none, weight_of-gone f (child_of t k) (none k))
 
 -- a share of a leaf went, whether or not it was the last one
-pub leaf_given : (u v w : SeatView) (t : Tree) (n : Name) (end : Lowering) → ViewTells u
+pub leaf_given : (u v w : SeatView) (t : Tree) (n : Name) (end : Lowering) → ViewFacts u
     → u.held ≡ v.held → IsHeld v.held t → root_of t ≡ Some n → n.level ≡ 0
     → EndsLowered v t w end → Gains w.held t v.held
 leaf_given u v w t n Left tells same held root level e = record {
@@ -54,21 +54,21 @@ leaf_given u v w t n (Freed children) tells same held root level e = record {
 }
 
 -- what was taken and given is as it was
-pub taken_and_given : (v m w : SeatView) (n : Name) (bits : ℕ) → LeafCame v bits n m
+pub taken_and_given : (v m w : SeatView) (n : Name) (bits : ℕ) → InternsLeaf v bits n m
     → ((t : Tree) → IsHeld m.held t → root_of t ≡ Some n → Gains w.held t m.held)
     → SameHeld v.held w.held
 taken_and_given v m w n bits came given =
     came_and_went v.held m.held w.held (LeafAt n bits) came.gains
     (given (LeafAt n bits) (gains_held v.held (LeafAt n bits) m.held came.gains) refl)
 
-pub came_held : (v m : SeatView) (n : Name) (bits : ℕ) → LeafCame v bits n m → HoldsName m.held n
+pub came_held : (v m : SeatView) (n : Name) (bits : ℕ) → InternsLeaf v bits n m → HoldsName m.held n
 came_held v m n bits came = record {
   tree = LeafAt n bits;
   is_held = gains_held v.held (LeafAt n bits) m.held came.gains;
   root = refl;
 }
 
-pub came_number : (v m : SeatView) (n : Name) (bits k : ℕ) → LeafCame v bits n m
+pub came_number : (v m : SeatView) (n : Name) (bits k : ℕ) → InternsLeaf v bits n m
     → number_of_trees v.held ≤ k → number_of_trees m.held ≤ k + 1
 came_number v m n bits k came le = let e = came.gains.weighs (λ _. 1) in omega arith
 
@@ -105,7 +105,7 @@ refused_same v w bits full r = record {
 }
 
 -- a share that came and went, while nothing else changed in between
-pub kept_and_given : (v m k w : SeatView) (n : Name) (bits : ℕ) → LeafCame v bits n m
+pub kept_and_given : (v m k w : SeatView) (n : Name) (bits : ℕ) → InternsLeaf v bits n m
     → SameHeld m.held k.held
     → ((t : Tree) → IsHeld k.held t → root_of t ≡ Some n → Gains w.held t k.held)
     → SameHeld v.held w.held
@@ -124,7 +124,7 @@ kept_and_given v m k w n bits came same given =
 pub same_itself : (a : List Tree) → SameHeld a a
 same_itself a = record { weighs = λ f. refl }
 
-pub gone_again : (u v w : SeatView) (t : Tree) (n : Name) (end : Lowering) → ViewTells u
+pub gone_again : (u v w : SeatView) (t : Tree) (n : Name) (end : Lowering) → ViewFacts u
     → v.held ≡ u.held → IsHeld u.held t → root_of t ≡ Some n → n.level ≡ 0
     → EndsLowered v t w end → Gains w.held t u.held
 gone_again u v w t n end tells same held root level e =
@@ -138,14 +138,14 @@ pub as_left : (left made : List Tree) (t : Tree) (held : List Tree) → left ≡
     → Gains made t held → Gains left t held
 as_left left made t held is gains = subst (λ (x : List Tree). Gains x t held) (sym is) gains
 
-get_there : (passes : List PassSeen) (k : ℕ) (d : PassSeen) → k < length passes
+get_there : (passes : List PassState) (k : ℕ) (d : PassState) → k < length passes
     → slice_get passes k ≡ Some (get_or passes k d)
 get_there [] k d lt = absurd (omega arith)
 get_there (p ∷ passes) zero d lt = refl
 get_there (p ∷ passes) (suc k) d lt = get_there passes k d (omega arith)
 
 -- new passes are spare
-pub new_spare : (t : TableSeen) (passes : List PassSeen) → AreNewPasses t.id (terms_of t) passes
+pub new_spare : (t : TableState) (passes : List PassState) → AreNewPasses t.id (terms_of t) passes
     → All (IsSpare t) passes
 new_spare t passes all = λ k d lt.
     (let n = all.each k (get_or passes k d) (get_there passes k d lt) in
@@ -165,14 +165,14 @@ pub few_held : (held : List Tree) → held ≡ [] → number_of_trees held ≤ 3
 few_held held none = let e = none_held held none in omega arith
 
 -- what came back is spare
-pub back_spare : (t u : TableSeen) (passes back : List PassSeen) → All (IsSpare t) passes
+pub back_spare : (t u : TableState) (passes back : List PassState) → All (IsSpare t) passes
     → u ≡ t → back ≡ passes → All (IsSpare u) back
 back_spare t u passes back all table same =
-    subst (λ (l : List PassSeen). All (IsSpare u) l) (sym same)
-    (subst (λ (x : TableSeen). All (IsSpare x) passes) (sym table) all)
+    subst (λ (l : List PassState). All (IsSpare u) l) (sym same)
+    (subst (λ (x : TableState). All (IsSpare x) passes) (sym table) all)
 
 -- what is written back into a list of as many passes
-pub all_written : (P : PassSeen → Type 0) (n : ℕ) (xs ys : List PassSeen) → n ≤ length xs
+pub all_written : (P : PassState → Type 0) (n : ℕ) (xs ys : List PassState) → n ≤ length xs
     → All P xs → All P (take n (xs ++ ys))
 all_written P zero xs ys le all k d lt = absurd (omega arith)
 all_written P (suc n) [] ys le all k d lt = absurd (omega arith)

@@ -1,7 +1,7 @@
 ghost use Rattle.std.specs.Prelude.{◌≡◌, ◌≢◌, ◌≤◌, ◌<◌, None, [], All, IfSome, false};
 ghost use Rattle.node_words.specs.shapes.Weights.{number_of_trees};
 ghost use Rattle.node_words.specs.Held.{ForHeld, Gains, HoldsName, SameHeld};
-ghost use Rattle.node_table.specs.Seen.{BelongsTo};
+ghost use Rattle.node_table.specs.TableStates.{BelongsTo};
 ghost use Rattle.node_table.specs.Closing.{IsSpare};
 
 use node_table::{Lowering, NodeTable, Pass};

@@ -6,7 +6,7 @@ ghost use Rattle.node_words.specs.declared.shapes.names.Name.{Name};
 ghost use Rattle.node_words.specs.Gathering.{MayHold};
 ghost use Rattle.node_words.specs.Held.{ForHeld, Gains, HoldsName, SameHeld, name_in};
 ghost use Rattle.node_table.specs.Closing.{IsSpare};
-ghost use Rattle.node_table.specs.Seen.{BelongsTo};
+ghost use Rattle.node_table.specs.TableStates.{BelongsTo};
 
 use crate::calls::{begun_small, ended};
 use crate::closes::closes_blank;

@@ -9,12 +9,13 @@ ghost use Rattle.history_model.specs.Logs.{TintFits};
 ghost use Rattle.node_table.specs.Closing.{IsSpare};
 
 use crate::calls::{begun, end, ended, only_one};
+use act_rebuilds::{DrawnModels, draw_models, rebuild_act};
 use colour::tint_at;
 use edit_walk::back_if;
-use hands::{ActMaker, AnyAct, DrawnModels, Hand, draw_models};
 use history_model::{Act, TintAct};
 use node_table::{NodeTable, Pass};
 use node_words::{NodeStore, Plan, Share, Steps};
+use session::Hand;
 use std::alloc::Global;
 use std::marker::Brand;
 use std::sync::Wait;
@@ -102,9 +103,7 @@ fn tint_after<N: NodeStore, L: Ledger>(
     ensures held { SameHeld (N.seen store.old).held (N.seen store.new).held }
     ensures rests { N.rests store.old store.new }
 {
-    let edit = Act::Tint(act);
-    let mut maker = AnyAct { models, edit };
-    match maker.make(store, old, side, steps) {
+    match rebuild_act(store, old, side, models, Act::Tint(act), steps) {
         Ok(root) => {
             let tint = tint_at(store, root.as_ref(), side, at);
             back_if(store, root, steps);
@@ -136,9 +135,7 @@ fn tint_after_both<N: NodeStore, L: Ledger>(
     ensures rests { N.rests store.old store.new }
 {
     let mut steps: Steps<L> = Steps::start(blank);
-    let edit = Act::Tint(row.first);
-    let mut maker = AnyAct { models, edit };
-    match maker.make(store, None, side, &mut steps) {
+    match rebuild_act(store, None, side, models, Act::Tint(row.first), &mut steps) {
         Ok(root) => {
             let tint = tint_after(
                 store,

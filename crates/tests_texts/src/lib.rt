@@ -1,3 +1,4 @@
+//! Tests of scripts, journals and transcripts as texts.
 #![tactic(auto)]
 
 #[cfg(test)]

@@ -20,17 +20,17 @@ use Rattle.node_words.specs.Gathering.{Loses, MayHold}
 use Rattle.node_words.specs.Held.{Gains, HoldsName, IsHeld, SameHeld}
 use Rattle.node_words.specs.declared.shares.Full.{Full}
 use Rattle.core_laws.specs.contents.Aligned.{top, world_block}
-use Rattle.edit_walk.specs.blocks.Blocks.{GoesBack}
-use Rattle.table_rule.specs.LogTelling.{number_seen, seen_has}
+use Rattle.edit_walk.specs.blocks.Blocks.{ReturnsShare}
+use Rattle.table_rule.specs.LogFacts.{number_seen, seen_has}
 use Rattle.table_rule.specs.LogViews.{LogView}
 use Rattle.table_rule.specs.Views.{SeatView}
 use Rattle.table_rule.specs.LogChanges.{HasOpenTarget}
-use Rattle.intern.specs.Leaves.{LeafCame, LeafRefused}
+use Rattle.intern.specs.Leaves.{InternsLeaf, LeafRefused}
 use Rattle.node_table.specs.Begins.{AreNewPasses, terms_of}
 use Rattle.node_table.specs.Closing.{IsSpare}
 use Rattle.node_table.specs.LogTurns.{HasNoTurn, TakesLog}
-use Rattle.node_table.specs.Seen.{TableSeen, PassSeen, BelongsTo}
-use Rattle.version_log.specs.declared.ahead.Ahead.{Ahead}
+use Rattle.node_table.specs.TableStates.{TableState, PassState, BelongsTo}
+use Rattle.version_log.specs.declared.lookahead.Lookahead.{Lookahead}
 use Rattle.version_log.specs.declared.answers.Committed.{Committed}
 use Rattle.version_log.specs.declared.answers.Forgot.{Forgot}
 use Rattle.version_log.specs.declared.answers.Pinned.{Pinned}
@@ -62,10 +62,10 @@ few_held held none =
 pub same_nothing : (held : List Tree) → held ≡ [] → SameHeld [] held
 same_nothing held none = record { weighs = λ f. ap (λ (ts : List Tree). weigh f ts) none }
 
-pub idle_spare : (t : TableSeen) (s : PassSeen) → IsSpare t s → HasNoTurn s.view
+pub idle_spare : (t : TableState) (s : PassState) → IsSpare t s → HasNoTurn s.view
 idle_spare t s spare = record { bucket = spare.turn; log = spare.log_turn }
 
-pub spare_again : (t : TableSeen) (s : PassSeen) → BelongsTo t s → HasNoTurn s.view
+pub spare_again : (t : TableState) (s : PassState) → BelongsTo t s → HasNoTurn s.view
     → SameHeld [] s.view.held → IsSpare t s
 spare_again t s of idle same = record {
   of = of;
@@ -80,7 +80,7 @@ whole_held held t is = record { weighs = λ f. (let e = is.weighs f in omega ari
 
 -- where it went nothing is held
 pub whole_gone : (bits : ℕ) (old new : List Tree) (root : Option Name)
-    → Loses old (leaf_tree bits root) [] → GoesBack root old new → SameHeld [] new
+    → Loses old (leaf_tree bits root) [] → ReturnsShare root old new → SameHeld [] new
 whole_gone bits old new root is gone =
     let l = gone (leaf_tree bits root) (leaf_root bits root)
     (whole_held old (leaf_tree bits root) is) in
@@ -150,12 +150,12 @@ pub open_act : (v : SeatView) (root : Option Name) (act : Act) → act ≡ unifo
     → HasOpenTarget v act
 open_act v root act is = open_of_edit v act (edit_act root act is)
 
-pub knows_act : (records : List Record) (root : Option Name) (act : Act) (a : Ahead)
+pub knows_act : (records : List Record) (root : Option Name) (act : Act) (a : Lookahead)
     → act ≡ uniform_act root → KnowsNext records act a
 knows_act records root act a is = edit_knows records act a (edit_act root act is)
 
 -- what the pass holds it holds under the log's turn
-module _ (t : TableSeen) (s : PassSeen) (root : Option Name) (h : HoldsUniform t s root) where
+module _ (t : TableState) (s : PassState) (root : Option Name) (h : HoldsUniform t s root) where
   here : s.view.plan.side ≡ 2
   here = ap (λ p. p.side) h.of.plan ∙ h.side
 
@@ -174,19 +174,19 @@ module _ (t : TableSeen) (s : PassSeen) (root : Option Name) (h : HoldsUniform t
       (made_then s.view root here h.held h.level n)
 
 -- the same of any leaf
-module _ {bits : ℕ} (t : TableSeen) (s : PassSeen) (root : Option Name)
+module _ {bits : ℕ} (t : TableState) (s : PassState) (root : Option Name)
     (h : HoldsLeaf t s bits root) where
   -- a record took it
-  pub appended_spare : (u : SeatView) (w : PassSeen) (line : ℕ) (act : Act) (n : ℕ)
+  pub appended_spare : (u : SeatView) (w : PassState) (line : ℕ) (act : Act) (n : ℕ)
       → u.held ≡ s.view.held → AppendsNext u line act root n w.view → BelongsTo t w
       → HasNoTurn w.view → IsSpare t w
   appended_spare u w line act n same a of idle =
       spare_again t w of idle
       (whole_gone bits s.view.held w.view.held root h.held
-      (subst (λ (ts : List Tree). GoesBack root ts w.view.held) same a.gone))
+      (subst (λ (ts : List Tree). ReturnsShare root ts w.view.held) same a.gone))
 
   -- it came back with a refusal
-  pub refused_whole : (w : PassSeen) (back : Option Name) → back ≡ root
+  pub refused_whole : (w : PassState) (back : Option Name) → back ≡ root
       → w.view.held ≡ s.view.held → BelongsTo t w → HasNoTurn w.view → HoldsLeaf t w bits back
   refused_whole w back is same of idle =
       subst (λ (r : Option Name). HoldsLeaf t w bits r) (sym is)
@@ -216,8 +216,8 @@ module _ {bits : ℕ} (t : TableSeen) (s : PassSeen) (root : Option Name)
       let e = h.held.weighs (λ _. 1) in let n = weigh-nil (λ _. 1) in
       let one = whole_light bits root in omega arith
 
-  pub back_spare_again : (w : PassSeen) → BelongsTo t w → w.view.turn ≡ None
-      → w.view.log ≡ s.view.log → GoesBack root s.view.held w.view.held → IsSpare t w
+  pub back_spare_again : (w : PassState) → BelongsTo t w → w.view.turn ≡ None
+      → w.view.log ≡ s.view.log → ReturnsShare root s.view.held w.view.held → IsSpare t w
   back_spare_again w of idle log gone =
       spare_again t w of
       (record { bucket = idle; log = ap (λ (l : LogView). l.turn) log ∙ h.idle.log })
@@ -240,7 +240,7 @@ module _ (old mid : List Tree) (root : Option Name) (g : GetsRoot old root mid) 
   gets_few k few =
       let l = g.loses.weighs (λ _. 1) in let one = tree_light g.tree in omega arith
 
-  pub gets_back : (new : List Tree) → GoesBack root mid new → SameHeld old new
+  pub gets_back : (new : List Tree) → ReturnsShare root mid new → SameHeld old new
   gets_back new gone =
       let l = gone g.tree g.name
       (record { weighs = λ f. (let e = g.loses.weighs f in omega arith) }) in
@@ -255,8 +255,8 @@ no_root_came old new root g none = record {
 }
 
 -- what came of the leaf
-pub leaf_holds : {bits : ℕ} (t : TableSeen) (s w : PassSeen) (n : Name) → IsSpare t s
-    → t.plan.side ≡ 2 → LeafCame s.view bits n w.view → BelongsTo t w → HoldsLeaf t w bits (Some n)
+pub leaf_holds : {bits : ℕ} (t : TableState) (s w : PassState) (n : Name) → IsSpare t s
+    → t.plan.side ≡ 2 → InternsLeaf s.view bits n w.view → BelongsTo t w → HoldsLeaf t w bits (Some n)
 leaf_holds {bits} t s w n spare side came of =
     record {
       of = of;
@@ -275,7 +275,7 @@ leaf_holds {bits} t s w n spare side came of =
     }
 
 -- a pass that holds nothing holds no root
-pub none_holds : {bits : ℕ} (t : TableSeen) (s : PassSeen) → BelongsTo t s → HasNoTurn s.view
+pub none_holds : {bits : ℕ} (t : TableState) (s : PassState) → BelongsTo t s → HasNoTurn s.view
     → t.plan.side ≡ 2 → SameHeld [] s.view.held → HoldsLeaf t s bits None
 none_holds t s of idle side same =
     record {
@@ -290,7 +290,7 @@ none_holds t s of idle side same =
     }
 
 -- nor does one whose leaf found a full bucket
-pub full_holds : {bits : ℕ} (t : TableSeen) (s w : PassSeen) (full : Full) → IsSpare t s
+pub full_holds : {bits : ℕ} (t : TableState) (s w : PassState) (full : Full) → IsSpare t s
     → t.plan.side ≡ 2 → LeafRefused s.view bits full w.view → BelongsTo t w
     → HoldsLeaf t w bits None
 full_holds t s w full spare side refused of =
@@ -301,14 +301,14 @@ full_holds t s w full spare side refused of =
     })
     side (same_nothing w.view.held (refused.meets.held ∙ spare.held))
 
-get_there : (passes : List PassSeen) (k : ℕ) (d : PassSeen) → k < length passes
+get_there : (passes : List PassState) (k : ℕ) (d : PassState) → k < length passes
     → slice_get passes k ≡ Some (get_or passes k d)
 get_there [] k d lt = absurd (omega arith)
 get_there (p ∷ passes) zero d lt = refl
 get_there (p ∷ passes) (suc k) d lt = get_there passes k d (omega arith)
 
 -- new passes are spare
-pub new_spare : (t : TableSeen) (passes : List PassSeen) → AreNewPasses t.id (terms_of t) passes
+pub new_spare : (t : TableState) (passes : List PassState) → AreNewPasses t.id (terms_of t) passes
     → All (IsSpare t) passes
 new_spare t passes all = λ k d lt.
     (let n = all.each k (get_or passes k d) (get_there passes k d lt) in
@@ -321,7 +321,7 @@ new_spare t passes all = λ k d lt.
 
 -- a share of a node that went, whichever held tree has its name
 pub gone_named : (old new : List Tree) (root : Option Name) (n : Name) → root ≡ Some n
-    → ((t : Tree) → IsHeld old t → root_of t ≡ Some n → Gains new t old) → GoesBack root old new
+    → ((t : Tree) → IsHeld old t → root_of t ≡ Some n → Gains new t old) → ReturnsShare root old new
 gone_named old new root n is gives t name may =
     let named : root_of t ≡ Some n = name ∙ is in
     let held : IsHeld old t = record {
@@ -335,7 +335,7 @@ gone_named old new root n is gives t name may =
     }
 
 pub gone_none : (old new : List Tree) (root : Option Name) → root ≡ None → new ≡ old
-    → GoesBack root old new
+    → ReturnsShare root old new
 gone_none old new root none same t name may = record {
   weighs = λ f.
       (let w = weight_of-gone f t (name ∙ none) in
@@ -344,14 +344,14 @@ gone_none old new root none same t name may = record {
 }
 
 -- what came back is spare
-pub back_spare : (t u : TableSeen) (passes back : List PassSeen) → All (IsSpare t) passes
+pub back_spare : (t u : TableState) (passes back : List PassState) → All (IsSpare t) passes
     → u ≡ t → back ≡ passes → All (IsSpare u) back
 back_spare t u passes back all table same =
-    subst (λ (l : List PassSeen). All (IsSpare u) l) (sym same)
-    (subst (λ (x : TableSeen). All (IsSpare x) passes) (sym table) all)
+    subst (λ (l : List PassState). All (IsSpare u) l) (sym same)
+    (subst (λ (x : TableState). All (IsSpare x) passes) (sym table) all)
 
 -- a call that kept what is held leaves a pass spare that was
-pub kept_spare : (t : TableSeen) (s w : PassSeen) → IsSpare t s → BelongsTo t w → HasNoTurn w.view
+pub kept_spare : (t : TableState) (s w : PassState) → IsSpare t s → BelongsTo t w → HasNoTurn w.view
     → w.view.held ≡ s.view.held → IsSpare t w
 kept_spare t s w spare of idle same = record {
   of = of;
@@ -361,15 +361,15 @@ kept_spare t s w spare of idle same = record {
 }
 
 -- so does one whose root came and went
-pub went_spare : (t : TableSeen) (s w : PassSeen) (mid : List Tree) (root : Option Name)
-    → IsSpare t s → GetsRoot s.view.held root mid → GoesBack root mid w.view.held
+pub went_spare : (t : TableState) (s w : PassState) (mid : List Tree) (root : Option Name)
+    → IsSpare t s → GetsRoot s.view.held root mid → ReturnsShare root mid w.view.held
     → BelongsTo t w → HasNoTurn w.view → IsSpare t w
 went_spare t s w mid root spare came went of idle =
     spare_again t w of idle
     (subst (λ (ts : List Tree). SameHeld ts w.view.held) spare.held
     (gets_back s.view.held mid root came w.view.held went))
 
-pub gets_little : (t : TableSeen) (s : PassSeen) (mid : List Tree) (root : Option Name)
+pub gets_little : (t : TableState) (s : PassState) (mid : List Tree) (root : Option Name)
     → IsSpare t s → GetsRoot s.view.held root mid → number_of_trees mid ≤ 4000
 gets_little t s mid root spare came =
     let few = gets_few s.view.held mid root came 3000 (few_held s.view.held spare.held) in
@@ -381,8 +381,8 @@ pub forgot_gets : (v w : SeatView) (version line : ℕ) (f : Forgot)
 forgot_gets v w version line f e = record { tree = e.tree; name = e.name; loses = e.loses }
 
 -- a root came under the log's turn, and a record took it
-pub taken_spare : (t : TableSeen) (w : PassSeen) (old mid : List Tree) (root : Option Name)
-    → old ≡ [] → GetsRoot old root mid → GoesBack root mid w.view.held → BelongsTo t w
+pub taken_spare : (t : TableState) (w : PassState) (old mid : List Tree) (root : Option Name)
+    → old ≡ [] → GetsRoot old root mid → ReturnsShare root mid w.view.held → BelongsTo t w
     → HasNoTurn w.view → IsSpare t w
 taken_spare t w old mid root none came went of idle =
     spare_again t w of idle
@@ -390,10 +390,10 @@ taken_spare t w old mid root none came went of idle =
     (gets_back old mid root came w.view.held went))
 
 -- the same behind the log's turn
-module _ {bits : ℕ} (t : TableSeen) (s : PassSeen) (root : Option Name)
+module _ {bits : ℕ} (t : TableState) (s : PassState) (root : Option Name)
     (h : HoldsLeaf t s bits root) where
   -- nothing but what is seen changed
-  pub holds_still : (w : PassSeen) → BelongsTo t w → HasNoTurn w.view
+  pub holds_still : (w : PassState) → BelongsTo t w → HasNoTurn w.view
       → SameHeld s.view.held w.view.held → HoldsLeaf t w bits root
   holds_still w of idle same = record {
     of = of;
@@ -442,21 +442,21 @@ module _ (u w : SeatView) (keep line : ℕ) (act : Act) (root : Option Name) (c 
       let few = gets_few made.behind.held w.held c.fallen fell_gets 3000 (omega arith) in
       omega arith
 
-  pub fell_nothing : (x : List Tree) → GoesBack c.fallen w.held x → SameHeld [] x
+  pub fell_nothing : (x : List Tree) → ReturnsShare c.fallen w.held x → SameHeld [] x
   fell_nothing x gone =
       let same = gets_back made.behind.held w.held c.fallen fell_gets x gone in
       record { weighs = λ f. (let a = nothing.weighs f in let b = same.weighs f in omega arith) }
 
 -- whoever held a whole world's root and appended it holds nothing
-module _ {bits : ℕ} (t : TableSeen) (s : PassSeen) (root : Option Name)
+module _ {bits : ℕ} (t : TableState) (s : PassState) (root : Option Name)
     (h : HoldsLeaf t s bits root) where
   pub gone_whole : (u behind : SeatView) (line : ℕ) (act : Act) (n : ℕ) → u.held ≡ s.view.held
       → AppendsNext u line act root n behind → SameHeld [] behind.held
   gone_whole u behind line act n same a =
       whole_gone bits s.view.held behind.held root h.held
-      (subst (λ (ts : List Tree). GoesBack root ts behind.held) same a.gone)
+      (subst (λ (ts : List Tree). ReturnsShare root ts behind.held) same a.gone)
 
-  pub fallen_none : (x : PassSeen) → BelongsTo t x → HasNoTurn x.view → SameHeld [] x.view.held
+  pub fallen_none : (x : PassState) → BelongsTo t x → HasNoTurn x.view → SameHeld [] x.view.held
       → HoldsLeaf t x bits None
   fallen_none x of idle same = none_holds t x of idle h.side same
 
@@ -467,7 +467,7 @@ pub gone_taken : (u behind : SeatView) (old mid : List Tree) (line : ℕ) (act :
 gone_taken u behind old mid line act root n none came same a =
     subst (λ (ts : List Tree). SameHeld ts behind.held) none
     (gets_back old mid root came behind.held
-    (subst (λ (ts : List Tree). GoesBack root ts behind.held) same a.gone))
+    (subst (λ (ts : List Tree). ReturnsShare root ts behind.held) same a.gone))
 
 -- a version's cells are the same behind the share that was taken of its root
 pub kept_root : (v w : SeatView) (root : Option Name) (n : ℕ) → OnlyKeeps v w
@@ -508,7 +508,7 @@ blank_cells v p blank side q inside =
     }))
     ∙ no_cells_of root.tree (root.name ∙ blank.none) (q.x - 0) (q.y - 0) (q.z - 0)
 
-pub made_first : (t : TableSeen) (s : PassSeen) (root : Option Name) → HoldsLeaf t s 1 root
+pub made_first : (t : TableState) (s : PassState) (root : Option Name) → HoldsLeaf t s 1 root
     → (p : Pinned) → PinsBlank s.view p → (act : Act) → act ≡ first_act root
     → IsMadeOver s.view p.moment act root
 made_first t s root h p blank act is =
@@ -541,12 +541,12 @@ pub few_behind : (held was : List Tree) → held ≡ was → number_of_trees was
 few_behind held was same few =
     let is = ap (λ (ts : List Tree). number_of_trees ts) same in omega arith
 
-pub spare_behind : (t : TableSeen) (x : PassSeen) (u w : SeatView) (held : List Tree)
+pub spare_behind : (t : TableState) (x : PassState) (u w : SeatView) (held : List Tree)
     (keep line : ℕ) (act : Act) (root : Option Name) (c : Committed)
     (made : CommitsNext u keep line act root c w)
     → SameHeld [] made.behind.held → held ≡ w.held → BelongsTo t x → HasNoTurn x.view
-    → GoesBack c.fallen held x.view.held → IsSpare t x
+    → ReturnsShare c.fallen held x.view.held → IsSpare t x
 spare_behind t x u w held keep line act root c made nothing same of idle gone =
     spare_again t x of idle
     (fell_nothing u w keep line act root c made nothing x.view.held
-    (subst (λ (ts : List Tree). GoesBack c.fallen ts x.view.held) same gone))
+    (subst (λ (ts : List Tree). ReturnsShare c.fallen ts x.view.held) same gone))

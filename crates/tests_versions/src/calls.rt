@@ -5,10 +5,10 @@ ghost use Rattle.history_model.specs.Worlds.{is_edit};
 ghost use Rattle.node_words.specs.shapes.Weights.{number_of_trees};
 ghost use Rattle.node_words.specs.declared.shapes.names.Name.{Name};
 ghost use Rattle.node_words.specs.Held.{HoldsName};
-ghost use Rattle.edit_walk.specs.blocks.Blocks.{GoesBack};
+ghost use Rattle.edit_walk.specs.blocks.Blocks.{ReturnsShare};
 ghost use Rattle.node_table.specs.Closing.{IsSpare};
 ghost use Rattle.node_table.specs.LogTurns.{HasNoTurn};
-ghost use Rattle.node_table.specs.Seen.{BelongsTo};
+ghost use Rattle.node_table.specs.TableStates.{BelongsTo};
 ghost use Rattle.tests_versions.specs.Holding.{HoldsUniform};
 
 use crate::uniform::{act_behind, all_back, name_of, root_back, uniform_root};
@@ -18,8 +18,8 @@ use node_words::{Name, Share, Steps};
 use std::sync::Wait;
 use std::sync::ledger::Ledger;
 use version_log::{
-    Committed, ForgetRefused, Forgot, Lead, PinRefused, Pinned, SureRefused, finish, forget,
-    keep_version, nothing_kept, pin, target,
+    Committed, ForgetRefused, Forgot, FoundTarget, PinRefused, Pinned, SureRefused, finish, forget,
+    keep_version, no_lookahead, pin, target,
 };
 
 /// A version that was pinned, the length then, and its root, which went back.
@@ -82,7 +82,7 @@ pub fn fallen_back<R: Wait, L: Ledger>(
     requires room { number_of_trees pass.old.view.held ≤ 4000 }
     ensures of { BelongsTo table.now pass.new }
     ensures idle { HasNoTurn pass.new.view }
-    ensures gone { GoesBack committed.fallen pass.old.view.held pass.new.view.held }
+    ensures gone { ReturnsShare committed.fallen pass.old.view.held pass.new.view.held }
 {
     let Committed { n, fallen } = committed;
     let name = name_of(&fallen);
@@ -105,7 +105,7 @@ fn finish_or_back<R: Wait, L: Ledger>(
 {
     let act = act_behind(name_of(&root));
     take_log(rt, table, pass);
-    match finish(table, pass, nothing_kept(), line, &act, root, 0) {
+    match finish(table, pass, no_lookahead(), line, &act, root, 0) {
         Ok(committed) => (fallen_back(rt, table, pass, committed, steps).n, None),
         Err(SureRefused::LogFull { root }) => (0, root),
     }
@@ -208,7 +208,7 @@ pub fn go_keeping<R: Wait, L: Ledger>(
     ensures { IsSpare table.now pass.new }
 {
     take_log(rt, table, pass);
-    let Lead { to, ahead } = target(table, pass, act);
+    let FoundTarget { to, ahead } = target(table, pass, act);
     let Some(to) = to else {
         leave_log(table, pass);
         return (Went::Nowhere, None);

@@ -3,10 +3,10 @@ ghost use Rattle.std.specs.Prelude.{◌≡◌, ◌≤◌, Some, All, IfOk};
 ghost use Rattle.node_words.specs.shapes.Weights.{number_of_trees};
 ghost use Rattle.node_words.specs.declared.shapes.names.Name.{Name};
 ghost use Rattle.node_words.specs.Held.{HoldsName};
-ghost use Rattle.edit_walk.specs.blocks.Blocks.{GoesBack};
+ghost use Rattle.edit_walk.specs.blocks.Blocks.{ReturnsShare};
 ghost use Rattle.node_table.specs.Closing.{IsSpare};
 ghost use Rattle.node_table.specs.LogTurns.{HasNoTurn};
-ghost use Rattle.node_table.specs.Seen.{BelongsTo};
+ghost use Rattle.node_table.specs.TableStates.{BelongsTo};
 ghost use Rattle.tests_versions.specs.Holding.{HoldsUniform};
 ghost use Rattle.tests_versions.specs.Uniform.{uniform_act};
 
@@ -81,7 +81,7 @@ pub fn root_back<R: Wait, L: Ledger>(
     ensures of { BelongsTo table.now pass.new }
     ensures idle { HasNoTurn pass.new.view }
     ensures log { pass.new.view.log ≡ pass.old.view.log }
-    ensures gone { GoesBack root pass.old.view.held pass.new.view.held }
+    ensures gone { ReturnsShare root pass.old.view.held pass.new.view.held }
 {
     match root {
         Some(share) => release::back(rt, table, pass, share, steps),

@@ -1,3 +1,4 @@
+//! Laws that the texts of scripts, of regions and of scenes mean what is built from them.
 #![tactic(auto)]
 
 mod loads;

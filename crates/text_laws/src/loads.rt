@@ -2,8 +2,8 @@
 //! commands they were made of.
 //!
 //! It has no code but the statements, and touches nothing. The commands are in
-//! `specs/loads/Commands.antt`, and that they are read in `specs/loads/ReadLaws.antt`; what a load is stands
-//! in `specs/loads/Loads.antt` of `gen_load`.
+//! `specs/loads/Commands.antt`, and that they are read in `specs/loads/ReadLaws.antt`; what a load
+//! is stands in `specs/loads/Loads.antt` of `gen_load`.
 
 ghost use Rattle.text_laws.specs.loads.ReadLaws.{ScriptsAreRead};
 

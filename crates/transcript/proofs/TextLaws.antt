@@ -10,7 +10,7 @@ use Rattle.plain_text.specs.WordLaws.{AllFree, letters_free, words_back}
 use Rattle.transcript.specs.declared.answers.Answer.{Answer}
 use Rattle.transcript.specs.declared.answers.Answer.TheVariants.{Done, Forgot, Is, Colour, Count, Faces, Extent, Hit, Same, Head, Saved, Full, NoVersion, Forgotten, IsHead, NothingToUndo, NothingToRedo, LogFull, Stale}
 use Rattle.transcript.specs.declared.answers.LineAnswer.{LineAnswer}
-use Rattle.transcript.specs.Lines.{cell_told, answer_list, line_list, transcript_of}
+use Rattle.transcript.specs.Lines.{words_of_cell, answer_list, line_list, transcript_of}
 use Rattle.transcript.specs.Bounds.{IsAnswer, IsLineAnswer}
 use Rattle.transcript.specs.Rows.{line_spelled}
 use Rattle.transcript.specs.Refusals.{line_words}
@@ -23,7 +23,7 @@ number_free : (separator n : ℕ) → separator < 48 → n < 2 ^ 64 → AllFree 
 number_free separator n low small = (decimal_free separator n low small, tt)
 
 cell_free : (separator : ℕ) (c : Cell) (more : List (List ℕ)) → separator < 48 → IsCell c
-    → AllFree separator more → AllFree separator (cell_told c more)
+    → AllFree separator more → AllFree separator (words_of_cell c more)
 cell_free separator c more low is free = (
   decimal_free separator c.x low (omega (arith, is.0)),
   (
@@ -52,7 +52,7 @@ answer_free separator (Faces number) low is =
 answer_free separator (Extent None) low is =
     (letters_free separator (codes "bounds") low refl, (letters_free separator (codes "none") low refl, tt))
 answer_free separator (Extent (Some b)) low is =
-    (letters_free separator (codes "bounds") low refl, cell_free separator b.at (cell_told b.size []) low is.0 (cell_free separator b.size [] low is.1 tt))
+    (letters_free separator (codes "bounds") low refl, cell_free separator b.at (words_of_cell b.size []) low is.0 (cell_free separator b.size [] low is.1 tt))
 answer_free separator (Hit None) low is = (letters_free separator (codes "miss") low refl, tt)
 answer_free separator (Hit (Some c)) low is =
     (letters_free separator (codes "hit") low refl, cell_free separator c [] low is tt)

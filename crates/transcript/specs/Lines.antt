@@ -9,8 +9,8 @@ use Rattle.transcript.specs.declared.answers.LineAnswer.{LineAnswer}
 use Rattle.plain_text.specs.Parts.{line_of}
 
 -- the three words of a cell, before others
-abbrev pub cell_told : Cell → List (List ℕ) → List (List ℕ)
-cell_told c more = decimal c.x ∷ decimal c.y ∷ decimal c.z ∷ more
+abbrev pub words_of_cell : Cell → List (List ℕ) → List (List ℕ)
+words_of_cell c more = decimal c.x ∷ decimal c.y ∷ decimal c.z ∷ more
 
 abbrev pub answer_list : Answer → List (List ℕ)
 answer_list Done = codes "ok" ∷ []
@@ -21,9 +21,9 @@ answer_list (Colour tint) = codes "colour" ∷ decimal tint ∷ []
 answer_list (Count cells) = codes "count" ∷ decimal cells ∷ []
 answer_list (Faces number) = codes "faces" ∷ decimal number ∷ []
 answer_list (Extent None) = codes "bounds" ∷ codes "none" ∷ []
-answer_list (Extent (Some b)) = codes "bounds" ∷ cell_told b.at (cell_told b.size [])
+answer_list (Extent (Some b)) = codes "bounds" ∷ words_of_cell b.at (words_of_cell b.size [])
 answer_list (Hit None) = codes "miss" ∷ []
-answer_list (Hit (Some c)) = codes "hit" ∷ cell_told c []
+answer_list (Hit (Some c)) = codes "hit" ∷ words_of_cell c []
 answer_list (Same true) = codes "same" ∷ []
 answer_list (Same false) = codes "different" ∷ []
 answer_list Head = codes "head" ∷ []
@@ -45,7 +45,7 @@ abbrev pub answer_text : Answer → List ℕ
 answer_text answer = line_of (answer_list answer)
 
 abbrev pub cell_text : Cell → List ℕ
-cell_text c = line_of (cell_told c [])
+cell_text c = line_of (words_of_cell c [])
 
 -- each line has its newline
 abbrev pub line_text : LineAnswer → List ℕ

@@ -16,8 +16,8 @@ use Rattle.node_words.proofs.OfShapes.WeightLaws.{weight_of-there}
 use Rattle.node_words.specs.Gathering.{Loses, MayHold}
 use Rattle.node_words.specs.Held.{IsHeld}
 use Rattle.node_words.specs.Plans.{Layout}
-use Rattle.core_laws.specs.places.Spots.{Spot, Version}
-use Rattle.table_rule.specs.LogTelling.{number_seen, seen_has}
+use Rattle.core_laws.specs.places.WordIds.{WordId, Version}
+use Rattle.table_rule.specs.LogFacts.{number_seen, seen_has}
 use Rattle.table_rule.specs.LogWords.{HasNumbers}
 use Rattle.table_rule.specs.Views.{SeatView}
 use Rattle.table_rule.specs.LogChanges.{HasOpenTarget, IsOpenTarget, IsAppendable}
@@ -29,15 +29,15 @@ use Rattle.version_log.specs.Commits.{AppendsNext, IsMadeOver, RefusesCommit, wi
 use Rattle.node_table.specs.Guards.{TakesAtOnce}
 use Rattle.version_log.specs.Tries.{RefusesTry, tried}
 use Rattle.node_table.proofs.LogActs.{one_tree}
-use Rattle.node_table.specs.Seen.{PassSeen, TableSeen}
-use Rattle.table_rule.specs.Telling.{ViewTells}
-use Rattle.version_log.specs.Seeing.{LooksOn, MetOthers}
+use Rattle.node_table.specs.TableStates.{PassState, TableState}
+use Rattle.table_rule.specs.ViewFacts.{ViewFacts}
+use Rattle.version_log.specs.Seeing.{OnlyReadsLog, MetOthers}
 use Rattle.version_log.proofs.LookLaws.{looks_on, others_by, others_on, takes_looks}
-use Rattle.version_log.specs.Targets.{IsMadeNow, StandsNext, with_act}
+use Rattle.version_log.specs.Targets.{IsMadeNow, NextCursor, with_act}
 use Rattle.version_log.proofs.WordLaws.{words_by, words_of_next}
 
 -- the view with the log's turn, under which these words are known, and nothing new to be seen
-abbrev pub in_turn : SeatView → List (Spot × ℕ) → List ℕ → SeatView
+abbrev pub in_turn : SeatView → List (WordId × ℕ) → List ℕ → SeatView
 in_turn v words busy =
     record v { log = record v.log { turn = true; words = words; busy = busy } }
 
@@ -99,7 +99,7 @@ held_or_gone held (NodeAt n a b c d e f g h) may =
     })
 
 -- the act may be appended, whose root was made of what is seen
-appendable : (v : SeatView) (words : List (Spot × ℕ)) (busy : List ℕ) (p : Layout)
+appendable : (v : SeatView) (words : List (WordId × ℕ)) (busy : List ℕ) (p : Layout)
     (session line : ℕ) (act : Act)
     (root : Option Name) → v.plan ≡ p → number_seen v < 65535
     → FitsWorld (2 ^ p.side) v.models act → HasOpenTarget (in_turn v words busy) act
@@ -121,9 +121,9 @@ appendable v words busy p session line act root plan room fits target numbers sm
       makes = made.makes;
     })
 
-next_words : (v : SeatView) (words : List (Spot × ℕ)) (busy : List ℕ) (session line : ℕ) (act : Act)
+next_words : (v : SeatView) (words : List (WordId × ℕ)) (busy : List ℕ) (session line : ℕ) (act : Act)
     (ws : List ℕ) (now last : ℕ) → v.numbers ≡ session ∷ []
-    → StandsNext v.log.seen.records act now last → ws ≡ words_by act now last session line
+    → NextCursor v.log.seen.records act now last → ws ≡ words_by act now last session line
     → AreNextWords (in_turn v words busy) ws (with_act session line act)
 next_words v words busy session line act ws now last number stands are =
     record {
@@ -147,7 +147,7 @@ pub record MayGoOn (v u : SeatView) (p : Layout) (session line : ℕ) (act : Act
   pub made : IsMadeNow v act root
   pub now : ℕ
   pub last : ℕ
-  pub stands : StandsNext v.log.seen.records act now last
+  pub stands : NextCursor v.log.seen.records act now last
   pub are : ws ≡ words_by act now last session line
 
 module _ (v u : SeatView) (p : Layout) (session line : ℕ) (act : Act) (root : Option Name)
@@ -176,7 +176,7 @@ module _ (v u : SeatView) (p : Layout) (session line : ℕ) (act : Act) (root : 
         may = fit;
       })
 
-  one : (t s : Tree) → ViewTells v → MayHold v.held t → MayHold v.held s → root_of t ≡ root_of s
+  one : (t s : Tree) → ViewFacts v → MayHold v.held t → MayHold v.held s → root_of t ≡ root_of s
       → t ≡ s
   one t s tells a b = one_tree v t s tells (held_or_gone v.held t a) (held_or_gone v.held s b)
 
@@ -195,7 +195,7 @@ module _ (v u : SeatView) (p : Layout) (session line : ℕ) (act : Act) (root : 
   append_meets w told = ap (λ (x : SeatView). x.log.busy) (under w told).is
 
   -- and of the view before it
-  pub appends : ViewTells v → (w : SeatView) (n : ℕ) → n ≡ number_seen u + 1
+  pub appends : ViewFacts v → (w : SeatView) (n : ℕ) → n ≡ number_seen u + 1
       → ForAppended p u ws root (λ r t. AppendsUnderTurn u r t w)
       → AppendsNext v line act root n w
   appends tells w n is told =
@@ -308,7 +308,7 @@ pub next_goes_on : (v u z : SeatView) (p : Layout) (session line at : ℕ) (act 
     (root : Option Name) (ws : List ℕ) (now last : ℕ) → v.log.turn ≡ true → LearnsLog v u → z ≡ u
     → at ≡ number_seen v → at < 65535 → v.plan ≡ p → v.numbers ≡ session ∷ []
     → FitsWorld (2 ^ p.side) v.models act → HasOpenTarget v act → HasNumbers act → line < 2 ^ 32
-    → IsMadeNow v act root → StandsNext v.log.seen.records act now last
+    → IsMadeNow v act root → NextCursor v.log.seen.records act now last
     → ws ≡ words_by act now last session line → MayGoOn v z p session line act root ws
 next_goes_on v u z p session line at act root ws now last turn learns same here room plan number
     fits target numbers small made stands words =
@@ -387,9 +387,9 @@ base_known v t moment takes known here =
     (sym (taken_same v t takes (omega (arith, here, known)))) ∙ here
 
 -- what is refused under the turn is refused of a try
-pub try_refused : (base : Pinned) (root : Option Name) (e : CommitRefused) (p : TableSeen)
-    (v : SeatView) (s : PassSeen) (w : SeatView) → TakesAtOnce p v s → w.log.busy ≡ s.view.log.busy
-    → LooksOn s.view w → RefusesCommit base root e w → RefusesTry p.made base root (tried e) v w
+pub try_refused : (base : Pinned) (root : Option Name) (e : CommitRefused) (p : TableState)
+    (v : SeatView) (s : PassState) (w : SeatView) → TakesAtOnce p v s → w.log.busy ≡ s.view.log.busy
+    → OnlyReadsLog s.view w → RefusesCommit base root e w → RefusesTry p.made base root (tried e) v w
 try_refused base root (LogFull back) p v s w came nobody looks refused =
     record {
       looks = looks_on v s.view w (takes_looks v s.view came.takes) looks;

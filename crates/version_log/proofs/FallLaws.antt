@@ -9,11 +9,11 @@ use Rattle.node_words.specs.declared.shapes.names.Name.{Name}
 use Rattle.node_words.specs.shapes.Tree.{Tree, Gone}
 use Rattle.node_words.specs.shapes.Weights.{number_of_trees, weigh}
 use Rattle.node_words.proofs.OfShapes.WeightLaws.{weight_of-gone}
-use Rattle.table_rule.specs.LogTelling.{number_seen}
+use Rattle.table_rule.specs.LogFacts.{number_seen}
 use Rattle.table_rule.specs.Views.{SeatView}
 use Rattle.node_table.specs.LogTurns.{ForgetsUnderTurn, FoundMark, FoundOpen, HasNoTurn, TakesLog, log_left, next_mark}
 use Rattle.node_table.specs.Guards.{LeavesBusy, TakesAtOnce}
-use Rattle.node_table.specs.Seen.{PassSeen, TableSeen}
+use Rattle.node_table.specs.TableStates.{PassState, TableState}
 use Rattle.version_log.specs.declared.answers.Pinned.{Pinned}
 use Rattle.version_log.specs.declared.answers.Committed.{Committed}
 use Rattle.version_log.specs.declared.answers.CommitRefused.{CommitRefused}
@@ -24,7 +24,7 @@ use Rattle.retain.specs.Retained.{falls_out}
 use Rattle.version_log.specs.Falling.{CommitsAlone, CommitsNext, FallsOut, WasMarked}
 use Rattle.version_log.specs.Forgets.{ForgetsVersion}
 use Rattle.version_log.specs.Roots.{GetsRoot}
-use Rattle.version_log.specs.Seeing.{LooksOn}
+use Rattle.version_log.specs.Seeing.{OnlyReadsLog}
 use Rattle.version_log.proofs.AppendLaws.{base_known, commits_before, commits_made, seen_grows, try_refused}
 use Rattle.version_log.proofs.ForgetLaws.{forgets, forgets_idle}
 use Rattle.version_log.proofs.LookLaws.{back_looks, left_on, looks_on, mark_looks, open_looks, takes_looks}
@@ -53,7 +53,7 @@ fell_marked v m w u line mark f left =
 module _ (v m w : SeatView) (u line session : ℕ) (root : Option Name) (earlier : u < number_seen v)
     (number : v.numbers ≡ session ∷ []) (b : FoundOpen v u m)
     (f : ForgetsUnderTurn m (next_mark m u session line) root w) where
-  open_left : LooksOn (log_left v) m
+  open_left : OnlyReadsLog (log_left v) m
   open_left = looks_on (log_left v) v m (back_looks v) (open_looks v u m b)
 
   pub fell_open : FallsOut (Some u) line (number_seen v) root (log_left v) w
@@ -139,7 +139,7 @@ falls_before v t w moment keep line act root c takes known here made = record {
 }
 
 -- under a turn that was taken the edit may be committed, unless another session was faster
-pub may_here : {made : ℕ} (t : TableSeen) (v w : SeatView) (base : Pinned) (act : Act)
+pub may_here : {made : ℕ} (t : TableState) (v w : SeatView) (base : Pinned) (act : Act)
     (root : Option Name) → TakesLog made v w → MayCommit t v base act root
     → MayCommitHere t w base act root
 may_here t v w base act root takes may =
@@ -180,7 +180,7 @@ came_alone (Err e) base keep line act root v w came = tt
 
 -- ---- the turn came at once
 
-pub at_once : (t : TableSeen) (s r : PassSeen) (answer : Bool) → answer ≡ true
+pub at_once : (t : TableState) (s r : PassState) (answer : Bool) → answer ≡ true
     → MatchBool answer (TakesAtOnce t s.view r) (LeavesBusy t s r) → TakesAtOnce t s.view r
 at_once t s r answer is told =
     subst (λ (b : Bool). MatchBool b (TakesAtOnce t s.view r) (LeavesBusy t s r)) is told
@@ -191,8 +191,8 @@ taken_few v w takes few =
     subst (λ (ts : List Tree). number_of_trees ts ≤ 4095)
     (sym (ap (λ (x : SeatView). x.held) takes.is)) few
 
-pub try_came : (t : TableSeen) (base : Pinned) (keep line : ℕ) (act : Act) (root : Option Name)
-    (c : Committed) (v : SeatView) (s : PassSeen) (w : SeatView) → TakesAtOnce t v s
+pub try_came : (t : TableState) (base : Pinned) (keep line : ℕ) (act : Act) (root : Option Name)
+    (c : Committed) (v : SeatView) (s : PassState) (w : SeatView) → TakesAtOnce t v s
     → base.moment ≤ number_seen v → IsCommitted base keep line act root c s.view w
     → w.log.busy ≡ s.view.log.busy → IsCommittedAtOnce base keep line act root c v w
 try_came t base keep line act root c v s w once known came nobody =
@@ -203,8 +203,8 @@ try_came t base keep line act root c v s w once known came nobody =
       met_nobody = nobody ∙ once.nobody;
     }
 
-pub try_refuses : (t : TableSeen) (base : Pinned) (root : Option Name) (e : CommitRefused)
-    (v : SeatView) (s : PassSeen) (w : SeatView) → TakesAtOnce t v s
+pub try_refuses : (t : TableState) (base : Pinned) (root : Option Name) (e : CommitRefused)
+    (v : SeatView) (s : PassState) (w : SeatView) → TakesAtOnce t v s
     → w.log.busy ≡ s.view.log.busy → IsNotCommitted base root e s.view w
     → IsNotTried t.made base root (tried e) v w
 try_refuses t base root e v s w once nobody came =

@@ -7,18 +7,18 @@ use Rattle.node_words.specs.shapes.Shape.{ShowsCells}
 use Rattle.node_words.specs.shapes.Tree.{shape_of}
 use Rattle.node_words.specs.shapes.Weights.{weigh, weight_of}
 use Rattle.core_laws.specs.contents.Aligned.{world_block}
-use Rattle.table_rule.specs.LogTelling.{number_seen, seen_has}
+use Rattle.table_rule.specs.LogFacts.{number_seen, seen_has}
 use Rattle.retain.specs.Listing.{Found}
 use Rattle.table_rule.specs.Views.{SeatView}
 use Rattle.node_table.specs.LogTurns.{FoundOpen, ForgetsUnderTurn, HasNoTurn, LearnsLog, TakesLog, next_mark}
 use Rattle.version_log.specs.Forgets.{ForgetsVersion}
-use Rattle.version_log.specs.Seeing.{FoundStays, IsDated, LooksOn}
+use Rattle.version_log.specs.Seeing.{KeepsFound, IsDated, OnlyReadsLog}
 use Rattle.version_log.proofs.LookLaws.{begun_looks, open_looks, looks_on, begins_on, dated_with, others_by, others_on}
 
 refl_le : (n : ℕ) → n ≤ n
 refl_le n = omega arith
 
-module _ (v m w : SeatView) (n line at session : ℕ) (root : Option Name) (looks : LooksOn v m)
+module _ (v m w : SeatView) (n line at session : ℕ) (root : Option Name) (looks : OnlyReadsLog v m)
     (same_held : m.held ≡ v.held) (here : at ≡ number_seen m) (earlier : n < at)
     (number : v.numbers ≡ session ∷ [])
     (f : ForgetsUnderTurn m (next_mark m n session line) root w) where
@@ -62,7 +62,7 @@ module _ (v m w : SeatView) (n line at session : ℕ) (root : Option Name) (look
               (subst (λ (k : ℕ). n < k) here earlier, refl_le (number_seen m))
               (looks.sees.dated dated));
           taken = ap (λ (x : SeatView). x.log.taken) f.is ∙ looks.sees.taken;
-          found = subst (λ (fs : List Found). FoundStays v.log.found fs)
+          found = subst (λ (fs : List Found). KeepsFound v.log.found fs)
               (sym (ap (λ (x : SeatView). x.log.found) f.is)) looks.sees.found;
         };
         session = record {
@@ -87,7 +87,7 @@ module _ (v m w : SeatView) (n line at session : ℕ) (root : Option Name) (look
 
 -- under the turn the version was found without a mark
 pub looked_open : {made : ℕ} (v t u m : SeatView) (n : ℕ) → TakesLog made v t → LearnsLog t u → FoundOpen u n m
-    → LooksOn v m
+    → OnlyReadsLog v m
 looked_open v t u m n takes learns is_open =
     looks_on v u m (begun_looks v t u takes learns) (open_looks u n m is_open)
 

@@ -10,12 +10,12 @@ use Rattle.table_rule.proofs.Containing.{contains_more, contains_parts}
 use Rattle.table_rule.specs.LogKnowing.{IsPrefix}
 use Rattle.table_rule.specs.LogViews.{LogView}
 use Rattle.retain.specs.Listing.{Found}
-use Rattle.table_rule.specs.LogTelling.{number_seen}
+use Rattle.table_rule.specs.LogFacts.{number_seen}
 use Rattle.table_rule.specs.Rules.{SameSession}
 use Rattle.table_rule.specs.Views.{SeatView}
 use Rattle.node_table.specs.LogTurns.{FoundMark, FoundOpen, LearnsLog, LooksForMark, TakesLog, log_left, with_log}
 use Rattle.version_log.specs.Keeping.{OnlyKeeps}
-use Rattle.version_log.specs.Seeing.{FoundStays, IsDated, MetOthers, KnowsMore, LooksOn}
+use Rattle.version_log.specs.Seeing.{KeepsFound, IsDated, MetOthers, KnowsMore, OnlyReadsLog}
 
 pub begins_itself : (a : Log) → IsPrefix a a
 begins_itself a =
@@ -48,7 +48,7 @@ others_on own a b c f g =
 -- the same session, and all that a call leaves of the view, but for its log
 looks_by : (v w : SeatView) → SameSession v w → KnowsMore v w → w.log.records ≡ v.log.records
     → w.log.marks ≡ v.log.marks → MetOthers v.numbers v.log.busy w.log.busy
-    → w.made ≡ v.made → w.met ≡ v.met → LooksOn v w
+    → w.made ≡ v.made → w.met ≡ v.met → OnlyReadsLog v w
 looks_by v w session sees records marks busy made met =
     record {
       session = session;
@@ -63,7 +63,7 @@ looks_by v w session sees records marks busy made met =
 same_session : (v : SeatView) → SameSession v v
 same_session v = record { alive = refl; plan = refl; models = refl; numbers = refl }
 
-pub looks_itself : (v : SeatView) → LooksOn v v
+pub looks_itself : (v : SeatView) → OnlyReadsLog v v
 looks_itself v =
     looks_by v v (same_session v)
     (record {
@@ -75,7 +75,7 @@ looks_itself v =
     })
     refl refl (others_itself v.numbers v.log.busy) refl refl
 
-pub looks_on : (u v w : SeatView) → LooksOn u v → LooksOn v w → LooksOn u w
+pub looks_on : (u v w : SeatView) → OnlyReadsLog u v → OnlyReadsLog v w → OnlyReadsLog u w
 looks_on u v w f g =
     record {
       session = record {
@@ -102,7 +102,7 @@ looks_on u v w f g =
 -- the same view, with another view of the log that has the same lists
 looks_log : (v : SeatView) (l : LogView) → KnowsMore v (with_log v l)
     → l.records ≡ v.log.records → l.marks ≡ v.log.marks → MetOthers v.numbers v.log.busy l.busy
-    → LooksOn v (with_log v l)
+    → OnlyReadsLog v (with_log v l)
 looks_log v l sees records marks busy =
     looks_by v (with_log v l)
     (record { alive = refl; plan = refl; models = refl; numbers = refl })
@@ -110,7 +110,7 @@ looks_log v l sees records marks busy =
 
 -- the same log was seen, and no other was taken over
 knows_found : (v : SeatView) (l : LogView) → l.seen ≡ v.log.seen → l.taken ≡ v.log.taken
-    → FoundStays v.log.found l.found → KnowsMore v (with_log v l)
+    → KeepsFound v.log.found l.found → KnowsMore v (with_log v l)
 knows_found v l same taken found =
     record {
       seen = subst (λ (log : Log). IsPrefix v.log.seen log) (sym same) (begins_itself v.log.seen);
@@ -144,16 +144,16 @@ dated_with log m here dated =
       ];
     }
 
-found_itself : (fs : List Found) → FoundStays fs fs
+found_itself : (fs : List Found) → KeepsFound fs fs
 found_itself fs = record { each = λ f c. c }
 
-found_more : (f : Found) (fs : List Found) → FoundStays fs (f ∷ fs)
+found_more : (f : Found) (fs : List Found) → KeepsFound fs (f ∷ fs)
 found_more f fs = record { each = λ x c. contains_more f fs x c }
 
-along : (v w z : SeatView) → w ≡ z → LooksOn v z → LooksOn v w
-along v w z e looks = subst (λ (x : SeatView). LooksOn v x) (sym e) looks
+along : (v w z : SeatView) → w ≡ z → OnlyReadsLog v z → OnlyReadsLog v w
+along v w z e looks = subst (λ (x : SeatView). OnlyReadsLog v x) (sym e) looks
 
-pub takes_looks : {made : ℕ} (v w : SeatView) → TakesLog made v w → LooksOn v w
+pub takes_looks : {made : ℕ} (v w : SeatView) → TakesLog made v w → OnlyReadsLog v w
 takes_looks v w t =
     along v w _ t.is
     (looks_log v _
@@ -166,13 +166,13 @@ takes_looks v w t =
     })
     refl refl (record { met = t.met; others = λ n c. (t.others.each n c).1; is = refl }))
 
-pub learns_looks : (v w : SeatView) → LearnsLog v w → LooksOn v w
+pub learns_looks : (v w : SeatView) → LearnsLog v w → OnlyReadsLog v w
 learns_looks v w l =
     along v w _ l.is
     (looks_log v _ (knows_found v _ refl refl (found_itself v.log.found)) refl refl
     (others_itself v.numbers v.log.busy))
 
-pub open_looks : (v : SeatView) (n : ℕ) (w : SeatView) → FoundOpen v n w → LooksOn v w
+pub open_looks : (v : SeatView) (n : ℕ) (w : SeatView) → FoundOpen v n w → OnlyReadsLog v w
 open_looks v n w f =
     along v w _ f.is
     (looks_log v _
@@ -180,7 +180,7 @@ open_looks v n w f =
     (found_more (record { version = n; at = number_seen v }) v.log.found)) refl refl
     (others_itself v.numbers v.log.busy))
 
-pub mark_looks : (v : SeatView) (n : ℕ) (m : Mark) (w : SeatView) → FoundMark v n m w → LooksOn v w
+pub mark_looks : (v : SeatView) (n : ℕ) (m : Mark) (w : SeatView) → FoundMark v n m w → OnlyReadsLog v w
 mark_looks v n m w f =
     looks_by v w
     (record {
@@ -201,7 +201,7 @@ mark_looks v n m w f =
           (dated_with v.log.seen m
           (subst (λ (k : ℕ). k < m.at) (sym f.version) f.later.0, f.later.1) dated);
       taken = ap (λ (x : SeatView). x.log.taken) f.is;
-      found = subst (λ (fs : List Found). FoundStays v.log.found fs)
+      found = subst (λ (fs : List Found). KeepsFound v.log.found fs)
           (sym (ap (λ (x : SeatView). x.log.found) f.is)) (found_itself v.log.found);
     })
     (ap (λ (x : SeatView). x.log.records) f.is) (ap (λ (x : SeatView). x.log.marks) f.is)
@@ -210,7 +210,7 @@ mark_looks v n m w f =
     (ap (λ (x : SeatView). x.met) f.is)
 
 -- a share was taken under the turn
-pub keeps_looks : (v w : SeatView) → OnlyKeeps v w → LooksOn v w
+pub keeps_looks : (v w : SeatView) → OnlyKeeps v w → OnlyReadsLog v w
 keeps_looks v w k =
     looks_by v w k.session
     (record {
@@ -219,36 +219,36 @@ keeps_looks v w k =
       side = ap (λ (l : LogView). l.seen.side) k.log;
       dated = subst (λ (l : LogView). IsDated l.seen) (sym k.log);
       taken = ap (λ (l : LogView). l.taken) k.log;
-      found = subst (λ (l : LogView). FoundStays v.log.found l.found) (sym k.log)
+      found = subst (λ (l : LogView). KeepsFound v.log.found l.found) (sym k.log)
           (found_itself v.log.found);
     })
     (ap (λ (l : LogView). l.records) k.log) (ap (λ (l : LogView). l.marks) k.log)
     (others_by v.numbers v.log.busy w.log.busy (ap (λ (l : LogView). l.busy) k.log)) k.made k.met
 
-pub left_looks : (v w : SeatView) → w ≡ log_left v → LooksOn v w
+pub left_looks : (v w : SeatView) → w ≡ log_left v → OnlyReadsLog v w
 left_looks v w e =
     along v w (log_left v) e
     (looks_log v _ (knows_found v _ refl refl (found_itself v.log.found)) refl refl
     (others_itself v.numbers v.log.busy))
 
 -- and with the turn no less is seen than without it
-pub back_looks : (v : SeatView) → LooksOn (log_left v) v
+pub back_looks : (v : SeatView) → OnlyReadsLog (log_left v) v
 back_looks v =
     looks_log (log_left v) v.log
     (knows_found (log_left v) v.log refl refl (found_itself v.log.found)) refl refl
     (others_itself v.numbers v.log.busy)
 
 -- the turn came and the length was read
-pub begun_looks : {made : ℕ} (v w z : SeatView) → TakesLog made v w → LearnsLog w z → LooksOn v z
+pub begun_looks : {made : ℕ} (v w z : SeatView) → TakesLog made v w → LearnsLog w z → OnlyReadsLog v z
 begun_looks v w z t l = looks_on v w z (takes_looks v w t) (learns_looks w z l)
 
 -- and the turn went back, as a view tells that is left
-pub left_on : (v w z : SeatView) → LooksOn v w → z ≡ log_left w → LooksOn v z
+pub left_on : (v w z : SeatView) → OnlyReadsLog v w → z ≡ log_left w → OnlyReadsLog v z
 left_on v w z f e = looks_on v w z f (left_looks w z e)
 
 -- a version was looked at
 pub found_looks : (v : SeatView) (n : ℕ) (o : Option Mark) (w : SeatView) → LooksForMark v n o w
-    → LooksOn v w
+    → OnlyReadsLog v w
 found_looks v n None w f = open_looks v n w f
 found_looks v n (Some m) w f = mark_looks v n m w f
 

@@ -15,18 +15,18 @@ use Rattle.node_words.specs.Gathering.{MayHold}
 use Rattle.node_words.specs.Held.{IsHeld}
 use Rattle.core_laws.specs.contents.Aligned.{top, world_block}
 use Rattle.core_laws.proofs.OfContents.WorldBlocks.{in_world, in_block}
-use Rattle.table_rule.specs.LogTelling.{number_seen, seen_has}
-use Rattle.table_rule.specs.Telling.{ViewTells}
+use Rattle.table_rule.specs.LogFacts.{number_seen, seen_has}
+use Rattle.table_rule.specs.ViewFacts.{ViewFacts}
 use Rattle.table_rule.specs.Views.{SeatView}
 use Rattle.version_log.specs.declared.answers.Pinned.{Pinned}
 use Rattle.retain.specs.declared.refusals.PinRefused.{PinRefused}
 use Rattle.retain.specs.declared.refusals.PinRefused.TheVariants.{NoVersion, Forgotten}
 use Rattle.version_log.specs.Pins.{IsPinned, RefusesPin}
 use Rattle.version_log.specs.PinStatements.{KeepsAllHeld}
-use Rattle.version_log.specs.Seeing.{LooksOn}
+use Rattle.version_log.specs.Seeing.{OnlyReadsLog}
 
 -- a version's cells stay while more is seen
-pub cells_stay : (v w : SeatView) (n : ℕ) → LooksOn v w → n ≤ number_seen v
+pub cells_stay : (v w : SeatView) (n : ℕ) → OnlyReadsLog v w → n ≤ number_seen v
     → seen_has w n ≡ seen_has v n
 cells_stay v w n looks there =
     let begins = looks.sees.seen in
@@ -38,7 +38,7 @@ cells_stay v w n looks there =
     same
     ∙ (λ i q. stored_stays (2 ^ v.plan.side) v.models v.log.seen.records begins.more n q there i)
 
-pub pinned_stays : (v w : SeatView) (p : Pinned) → LooksOn v w → KeepsAllHeld v.held w.held
+pub pinned_stays : (v w : SeatView) (p : Pinned) → OnlyReadsLog v w → KeepsAllHeld v.held w.held
     → IsPinned v p → IsPinned w p
 pinned_stays v w p looks all is =
     let side : w.plan.side ≡ v.plan.side = ap (λ x. x.side) looks.session.plan in
@@ -86,7 +86,7 @@ clear_none (LeafAt n bits) e = absurd (let no : ⊥ = cc in no)
 clear_none (NodeAt n a b c d e' f g h) e = absurd (let no : ⊥ = cc in no)
 
 -- a name's tree that is held is canonical, and so is no node
-canonical_root : (v : SeatView) (t : Tree) (root : Option Name) → ViewTells v → MayHold v.held t
+canonical_root : (v : SeatView) (t : Tree) (root : Option Name) → ViewFacts v → MayHold v.held t
     → root_of t ≡ root → ((n : Name) → root ≡ Some n → n.level ≡ top v.plan.side)
     → IsCanonical (top v.plan.side) (shape_of t)
 canonical_root v t None tells held name level =
@@ -102,7 +102,7 @@ canonical_root v t (Some n) tells held name level =
     subst (λ (k : ℕ). IsCanonical k (shape_of t)) (level n refl)
     (tells.canonical.each t n is_held name)
 
-pub pinned_cells : (v : SeatView) (p : Pinned) → 2 ≤ v.plan.side → ViewTells v → IsPinned v p
+pub pinned_cells : (v : SeatView) (p : Pinned) → 2 ≤ v.plan.side → ViewFacts v → IsPinned v p
     → (p.root ≡ None) ↔ ((q : Cell) → IsInWorld (2 ^ v.plan.side) q
     → seen_has v p.version q ≡ false)
 pinned_cells v p low tells is =

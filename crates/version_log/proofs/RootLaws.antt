@@ -16,10 +16,10 @@ use Rattle.node_words.proofs.HeldLaws.{held_reached}
 use Rattle.core_laws.specs.places.Names.{IsName, named}
 use Rattle.core_laws.specs.contents.Aligned.{top, world_block}
 use Rattle.core_laws.proofs.OfContents.WorldBlocks.{in_world}
-use Rattle.table_rule.specs.LogTelling.{IsShownRoot, seen_has}
-use Rattle.table_rule.specs.Telling.{ViewTells}
+use Rattle.table_rule.specs.LogFacts.{IsShownRoot, seen_has}
+use Rattle.table_rule.specs.ViewFacts.{ViewFacts}
 use Rattle.table_rule.specs.Views.{SeatView, BucketAt}
-use Rattle.table_rule.specs.Changes.{turned}
+use Rattle.table_rule.specs.Changes.{under_turn}
 use Rattle.node_table.specs.Acts.{RaisesUnderTurn, left_with}
 use Rattle.node_table.specs.Learning.{IsKnownLive}
 use Rattle.node_table.specs.Learning.IsKnownLive.{rooted}
@@ -32,13 +32,13 @@ gained_held old root new g =
     record { weighs = λ f. (let e = g.loses.weighs f in omega (arith, e)) }
 
 -- a name that was shown is one of the plan's
-pub shown_name : (v : SeatView) (p : Layout) (n : ℕ) (m : Name) → ViewTells v → v.plan ≡ p
+pub shown_name : (v : SeatView) (p : Layout) (n : ℕ) (m : Name) → ViewFacts v → v.plan ≡ p
     → IsShownRoot v n (Some m) → IsName p m
 shown_name v p n m tells plan shown =
     subst (λ (q : Layout). IsName q m) plan ((tells.roots.named n m shown).1)
 
 -- under a bucket's turn the root is shown still
-shown_turned : (v u : SeatView) (b : BucketAt) (n : ℕ) (m : Option Name) → u ≡ turned v (Some b)
+shown_turned : (v u : SeatView) (b : BucketAt) (n : ℕ) (m : Option Name) → u ≡ under_turn v (Some b)
     → IsShownRoot v n m → IsShownRoot u n m
 shown_turned v u b n m from shown =
     subst (λ (x : SeatView). IsShownRoot x n m) (sym from)
@@ -54,7 +54,7 @@ shown_turned v u b n m from shown =
     })
 
 pub shown_live : (v u : SeatView) (b : BucketAt) (n level bucket : ℕ) (m : Name)
-    → u ≡ turned v (Some b) → level ≡ m.level → bucket ≡ m.bucket
+    → u ≡ under_turn v (Some b) → level ≡ m.level → bucket ≡ m.bucket
     → IsShownRoot v n (Some m) → IsKnownLive u (named level bucket m.slot)
 shown_live v u b n level bucket m from here there shown =
     let at : m ≡ named level bucket m.slot = λ i. named (sym here i) (sym there i) m.slot in
@@ -62,7 +62,7 @@ shown_live v u b n level bucket m from here there shown =
 
 -- what a raise left: one more tree is held
 came : (v u w : SeatView) (b : BucketAt) (level bucket : ℕ) (m : Name)
-    → u ≡ turned v (Some b) → (r : RaisesUnderTurn u (named level bucket m.slot) w)
+    → u ≡ under_turn v (Some b) → (r : RaisesUnderTurn u (named level bucket m.slot) w)
     → w ≡ left_with v (r.tree ∷ v.held)
 came v u w b level bucket m from r =
     r.is ∙ ap (λ (x : SeatView). (let z : SeatView = left_with x (r.tree ∷ x.held) in z)) from
@@ -104,7 +104,7 @@ root_named t level bucket m root here there =
 -- a share of a shown root came
 pub raised_gains : (v u w : SeatView) (held : List Tree) (b : BucketAt) (level bucket : ℕ)
     (m : Name)
-    → u ≡ turned v (Some b) → level ≡ m.level → bucket ≡ m.bucket
+    → u ≡ under_turn v (Some b) → level ≡ m.level → bucket ≡ m.bucket
     → RaisesUnderTurn u (named level bucket m.slot) w → held ≡ w.held
     → GetsRoot v.held (Some m) held
 raised_gains v u w held b level bucket m from here there r same =
@@ -128,7 +128,7 @@ may_hold held t m root h =
 
 -- and shows the cells of its version
 root_after : (v w : SeatView) (t : Tree) (n : ℕ) (m : Name) → w ≡ left_with v (t ∷ v.held)
-    → root_of t ≡ Some m → IsShownRoot v n (Some m) → ViewTells w
+    → root_of t ≡ Some m → IsShownRoot v n (Some m) → ViewFacts w
     → HoldsRootOf w (Some m) (seen_has v n)
 root_after v w t n m is root shown tells =
     let now = shown_left v w (t ∷ v.held) n (Some m) is shown in
@@ -145,9 +145,9 @@ root_after v w t n m is root shown tells =
     }
 
 pub raised_root : (v u w z : SeatView) (b : BucketAt) (n level bucket : ℕ) (m : Name)
-    → u ≡ turned v (Some b) → level ≡ m.level → bucket ≡ m.bucket
+    → u ≡ under_turn v (Some b) → level ≡ m.level → bucket ≡ m.bucket
     → RaisesUnderTurn u (named level bucket m.slot) w → IsShownRoot v n (Some m) → z ≡ w
-    → ViewTells z → HoldsRootOf z (Some m) (seen_has v n)
+    → ViewFacts z → HoldsRootOf z (Some m) (seen_has v n)
 raised_root v u w z b n level bucket m from here there r shown same tells =
     root_after v z r.tree n m (same ∙ came v u w b level bucket m from r)
     (root_named r.tree level bucket m r.root here there) shown tells
@@ -173,7 +173,7 @@ clear_shows side cells low none =
     }
 
 pub no_root_held : (p : Layout) (v : SeatView) (n : ℕ) (root : Option Name) → IsPlan p → v.plan ≡ p
-    → ViewTells v → IsShownRoot v n root → root ≡ None → HoldsRootOf v root (seen_has v n)
+    → ViewFacts v → IsShownRoot v n root → root ≡ None → HoldsRootOf v root (seen_has v n)
 no_root_held p v n root plan is tells shown none =
     let shown_none : IsShownRoot v n None =
     subst (λ (r : Option Name). IsShownRoot v n r) none shown in

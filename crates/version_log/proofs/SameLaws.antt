@@ -7,8 +7,8 @@ use Rattle.node_words.specs.declared.shapes.names.Name.{Name}
 use Rattle.core_laws.specs.places.KeyWords.{child_of_word}
 use Rattle.core_laws.specs.contents.Aligned.{top}
 use Rattle.core_laws.specs.contents.Versions.{IsUnmarked, SameWorld}
-use Rattle.table_rule.specs.LogTelling.{IsShownRoot, number_seen, seen_has}
-use Rattle.table_rule.specs.Telling.{ViewTells}
+use Rattle.table_rule.specs.LogFacts.{IsShownRoot, number_seen, seen_has}
+use Rattle.table_rule.specs.ViewFacts.{ViewFacts}
 use Rattle.table_rule.specs.Views.{SeatView}
 use Rattle.table_rule.proofs.Containing.{contains_more}
 use Rattle.retain.specs.Listing.{Found}
@@ -16,7 +16,7 @@ use Rattle.table_rule.specs.LogChanges.{has_mark, marks_with, place_mark}
 use Rattle.node_table.specs.LogTurns.{LearnsLog, LooksForMark}
 use Rattle.retain.specs.declared.comparing.SameRefused.{SameRefused}
 use Rattle.retain.specs.declared.comparing.SameRefused.TheVariants.{NoVersion, Forgotten}
-use Rattle.version_log.specs.Sames.{IsFoundOpen, RefusesVersion, RefusesSame, TellsSame}
+use Rattle.version_log.specs.Sames.{IsFoundOpen, RefusesVersion, RefusesSame, AnswersSame}
 use Rattle.version_log.specs.Reading.{learns_on}
 
 -- a root that was shown is shown still once more words are known
@@ -39,7 +39,7 @@ shown_still v w n r l shown =
 
 -- two roots that were shown are one exactly where their versions have the same cells
 pub one_root : (v u w : SeatView) (m n : ℕ) (r s : Option Name) (answer : Bool) → LearnsLog v u
-    → LearnsLog u w → IsShownRoot u m r → IsShownRoot w n s → ViewTells w
+    → LearnsLog u w → IsShownRoot u m r → IsShownRoot w n s → ViewFacts w
     → IsTrue answer ↔ (r ≡ s)
     → IsTrue answer ↔ SameWorld (2 ^ v.plan.side) (seen_has v m) (seen_has v n)
 one_root v u w m n r s answer first second shown_r shown_s tells is =
@@ -129,7 +129,7 @@ found_learned x z u at l is =
 pub both_told : (v w at : ℕ) (answer : Bool) (x z : SeatView) → LearnsLog x z → number_seen x ≡ at
     → IsFoundOpen x v at → IsFoundOpen x w at
     → IsTrue answer ↔ SameWorld (2 ^ x.plan.side) (seen_has x v) (seen_has x w)
-    → TellsSame v w (record { at = at; equal = answer }) z
+    → AnswersSame v w (record { at = at; equal = answer }) z
 both_told v w at answer x z l here first second equal =
     let P : SeatView → Type 0 =
     λ y. IsTrue answer ↔ SameWorld (2 ^ y.plan.side) (seen_has y v) (seen_has y w)

@@ -11,7 +11,7 @@ use Rattle.history_model.specs.Stores.{stored_in}
 use Rattle.history_model.specs.Worlds.{is_edit}
 use Rattle.node_words.specs.declared.shapes.names.Name.{Name}
 use Rattle.node_table.specs.Making.{version_gone_to}
-use Rattle.table_rule.specs.LogTelling.{IsShownUnmarked, seen_has}
+use Rattle.table_rule.specs.LogFacts.{IsShownUnmarked, seen_has}
 use Rattle.table_rule.specs.Views.{SeatView}
 use Rattle.table_rule.specs.LogChanges.{HasOpenTarget, IsOpenTarget}
 use Rattle.version_log.specs.Roots.{HoldsRootOf}

@@ -9,18 +9,18 @@ use Rattle.history_model.specs.Packing.{packed, last_edit, log_words}
 use Rattle.history_model.specs.PositionLaws.{names_below}
 use Rattle.history_model.specs.Positions.{Position, next_position, position_after, undone, redone}
 use Rattle.history_model.specs.Worlds.{is_edit}
-use Rattle.table_rule.specs.LogTelling.{IsShownUnmarked, number_seen}
+use Rattle.table_rule.specs.LogFacts.{IsShownUnmarked, number_seen}
 use Rattle.table_rule.specs.Views.{SeatView}
 use Rattle.table_rule.specs.LogChanges.{HasOpenTarget, IsOpenTarget}
 use Rattle.node_table.specs.LogTurns.{AreWordsOf}
-use Rattle.undo.specs.declared.standing.Standing.{Standing}
+use Rattle.undo.specs.declared.cursor.UndoCursor.{UndoCursor}
 use Rattle.undo.specs.Standings.{version_of}
 use Rattle.undo.specs.Targets.{record_at, words_at, past_top, future_top}
 use Rattle.undo.proofs.Chains.{last_of_next, threads}
-use Rattle.version_log.specs.declared.ahead.Ahead.{Ahead}
+use Rattle.version_log.specs.declared.lookahead.Lookahead.{Lookahead}
 use Rattle.version_log.specs.declared.sures.Sure.{Sure}
-use Rattle.version_log.specs.Looking.{StaysAhead}
-use Rattle.version_log.specs.Targets.{KnowsNext, StandsBehind, StandsNext, keep_for, act_target, with_act}
+use Rattle.version_log.specs.Looking.{KeepsLookahead}
+use Rattle.version_log.specs.Targets.{KnowsNext, IsNextCursor, NextCursor, with_lookahead, act_target, with_act}
 
 -- the words of a record, behind which this version stands and this is the last edit
 abbrev pub words_by : Act → ℕ → ℕ → ℕ → ℕ → List ℕ
@@ -55,7 +55,7 @@ words_read v u n ws same low high are =
 
 -- where the history stands behind an edit
 pub edit_stands : (records : List Record) (act : Act) (n : ℕ) → is_edit act ≡ true
-    → n ≡ length records + 1 → StandsNext records act n n
+    → n ≡ length records + 1 → NextCursor records act n n
 edit_stands records act n edit here =
     record {
       now_is = λ session line.
@@ -94,7 +94,7 @@ other_now records n Redo to e =
     let at = position_after records in redo_now at.past at.now at.future to e
 
 pub other_stands : (records : List Record) (act : Act) (to last : ℕ) → is_edit act ≡ false
-    → act_target records act ≡ Some to → last ≡ last_edit records → StandsNext records act to last
+    → act_target records act ≡ Some to → last ≡ last_edit records → NextCursor records act to last
 other_stands records act to last other target is =
     record {
       now_is = λ session line.
@@ -107,7 +107,7 @@ other_stands records act to last other target is =
 
 -- the words of the next record, by where the history then stands
 pub words_of_next : (records : List Record) (act : Act) (now last session line : ℕ)
-    → StandsNext records act now last
+    → NextCursor records act now last
     → log_words (records ++ with_act session line act ∷ []) (with_act session line act)
     ≡ words_by act now last session line
 words_of_next records act now last session line stands =
@@ -173,10 +173,10 @@ gone_there records Redo to e =
     subst (λ (t : Option ℕ). IfSome t (λ k. k ≤ length records)) e (future_there records)
 
 -- where the history stands behind an undo or a redo, as the log's words tell
-pub looked_behind : (records : List Record) (act : Act) (behind : Option Standing)
+pub looked_behind : (records : List Record) (act : Act) (behind : Option UndoCursor)
     → is_edit act ≡ false → length records ≤ 65535 → version_of behind ≡ act_target records act
     → IfSome behind (λ s. s.last ≡ last_edit records)
-    → IfSome behind (StandsBehind records act)
+    → IfSome behind (IsNextCursor records act)
 looked_behind records act None other few target last = tt
 looked_behind records act (Some s) other few target last =
     let low = (threads records).1 in
@@ -187,15 +187,15 @@ looked_behind records act (Some s) other few target last =
     }
 
 -- a version that it leads to is there
-pub led_there : (records : List Record) (act : Act) (behind : Option Standing)
+pub led_there : (records : List Record) (act : Act) (behind : Option UndoCursor)
     → version_of behind ≡ act_target records act
     → IfSome (version_of behind) (λ to. to ≤ length records)
 led_there records act None target = tt
 led_there records act (Some s) target = gone_there records act s.now (sym target)
 
 -- it is kept for the act
-kept_by : (records : List Record) (act : Act) (behind : Option Standing) (a : Ahead)
-    → IfSome behind (StandsBehind records act) → KnowsNext records act (keep_for act behind a)
+kept_by : (records : List Record) (act : Act) (behind : Option UndoCursor) (a : Lookahead)
+    → IfSome behind (IsNextCursor records act) → KnowsNext records act (with_lookahead act behind a)
 kept_by records (Fill b) behind a knows = tt
 kept_by records (Erase b) behind a knows = tt
 kept_by records (Ball b) behind a knows = tt
@@ -206,18 +206,18 @@ kept_by records (Tint t) behind a knows = tt
 kept_by records Undo behind a knows = knows
 kept_by records Redo behind a knows = knows
 
-pub kept_known : (records now : List Record) (act : Act) (behind : Option Standing) (a b : Ahead)
-    → b ≡ keep_for act behind a → now ≡ records → IfSome behind (StandsBehind records act)
+pub kept_known : (records now : List Record) (act : Act) (behind : Option UndoCursor) (a b : Lookahead)
+    → b ≡ with_lookahead act behind a → now ≡ records → IfSome behind (IsNextCursor records act)
     → KnowsNext now act b
 kept_known records now act behind a b is same knows =
-    subst (λ (x : Ahead). KnowsNext now act x) (sym is)
-    (subst (λ (rs : List Record). KnowsNext rs act (keep_for act behind a)) (sym same)
+    subst (λ (x : Lookahead). KnowsNext now act x) (sym is)
+    (subst (λ (rs : List Record). KnowsNext rs act (with_lookahead act behind a)) (sym same)
     (kept_by records act behind a knows))
 
 -- what was kept for any act stays so, or is what was found of that act
-kept_beside : (records : List Record) (act : Act) (behind : Option Standing) (a : Ahead)
-    → IfSome behind (StandsBehind records act) → (other : Act) → KnowsNext records other a
-    → KnowsNext records other (keep_for act behind a)
+kept_beside : (records : List Record) (act : Act) (behind : Option UndoCursor) (a : Lookahead)
+    → IfSome behind (IsNextCursor records act) → (other : Act) → KnowsNext records other a
+    → KnowsNext records other (with_lookahead act behind a)
 kept_beside records Undo behind a found Undo knows = found
 kept_beside records Undo behind a found Redo knows = knows
 kept_beside records Undo behind a found edit knows = tt
@@ -226,17 +226,17 @@ kept_beside records Redo behind a found Undo knows = knows
 kept_beside records Redo behind a found edit knows = tt
 kept_beside records edit behind a found other knows = knows
 
-pub stays_kept : (s t : Sure) (act : Act) (behind : Option Standing)
-    → t.ahead ≡ keep_for act behind s.ahead
+pub stays_kept : (s t : Sure) (act : Act) (behind : Option UndoCursor)
+    → t.ahead ≡ with_lookahead act behind s.ahead
     → t.pass.now.view.log.seen.records ≡ s.pass.now.view.log.seen.records
-    → IfSome behind (StandsBehind s.pass.now.view.log.seen.records act) → StaysAhead s t
+    → IfSome behind (IsNextCursor s.pass.now.view.log.seen.records act) → KeepsLookahead s t
 stays_kept s t act behind is same found other knows =
-    subst (λ (a : Ahead). KnowsNext t.pass.now.view.log.seen.records other a) (sym is)
-    (subst (λ (rs : List Record). KnowsNext rs other (keep_for act behind s.ahead)) (sym same)
+    subst (λ (a : Lookahead). KnowsNext t.pass.now.view.log.seen.records other a) (sym is)
+    (subst (λ (rs : List Record). KnowsNext rs other (with_lookahead act behind s.ahead)) (sym same)
     (kept_beside s.pass.now.view.log.seen.records act behind s.ahead found other knows))
 
 -- for an edit nothing needs to be kept
-pub edit_knows : (records : List Record) (act : Act) (a : Ahead) → is_edit act ≡ true
+pub edit_knows : (records : List Record) (act : Act) (a : Lookahead) → is_edit act ≡ true
     → KnowsNext records act a
 edit_knows records (Fill b) a edit = tt
 edit_knows records (Erase b) a edit = tt
@@ -250,7 +250,7 @@ edit_knows records Redo a edit = absurd (let no : ⊥ = cc in no)
 
 -- what is kept is as right of the same records
 pub stays_ahead : (s t : Sure) → t.ahead ≡ s.ahead
-    → t.pass.now.view.log.seen.records ≡ s.pass.now.view.log.seen.records → StaysAhead s t
+    → t.pass.now.view.log.seen.records ≡ s.pass.now.view.log.seen.records → KeepsLookahead s t
 stays_ahead s t same records act knows =
-    subst (λ (a : Ahead). KnowsNext t.pass.now.view.log.seen.records act a) (sym same)
+    subst (λ (a : Lookahead). KnowsNext t.pass.now.view.log.seen.records act a) (sym same)
     (subst (λ (rs : List Record). KnowsNext rs act s.ahead) (sym records) knows)

@@ -5,11 +5,11 @@ use Rattle.history_model.specs.Logs.{FitsWorld}
 use Rattle.history_model.specs.Worlds.{is_edit}
 use Rattle.node_words.specs.declared.shapes.names.Name.{Name}
 use Rattle.table_rule.specs.LogChanges.{HasOpenTarget}
-use Rattle.table_rule.specs.LogTelling.{number_seen}
+use Rattle.table_rule.specs.LogFacts.{number_seen}
 use Rattle.table_rule.specs.Views.{SeatView}
 use Rattle.node_table.specs.LogTurns.{log_left}
-use Rattle.node_table.specs.Seen.{TableSeen}
-use Rattle.version_log.specs.declared.ahead.Ahead.{Ahead}
+use Rattle.node_table.specs.TableStates.{TableState}
+use Rattle.version_log.specs.declared.lookahead.Lookahead.{Lookahead}
 use Rattle.version_log.specs.declared.answers.Committed.{Committed}
 use Rattle.version_log.specs.declared.answers.CommitRefused.{CommitRefused}
 use Rattle.version_log.specs.declared.answers.Pinned.{Pinned}
@@ -19,13 +19,13 @@ use Rattle.version_log.specs.Commits.{IsMadeOver, RefusesCommit}
 use Rattle.version_log.specs.Falling.{CommitsNext}
 use Rattle.version_log.specs.Finishing.{RefusesFinish}
 use Rattle.version_log.specs.Pins.{IsPinned}
-use Rattle.version_log.specs.Seeing.{LooksOn}
+use Rattle.version_log.specs.Seeing.{OnlyReadsLog}
 use Rattle.version_log.specs.Targets.{IsMadeNow, KnowsNext}
 use Rattle.version_log.specs.Tries.{RefusesTry}
 
 -- the base was pinned by this pass, as the head then; the edit lies in the world, and the root is
 -- what it makes of the base
-pub record MayCommit (t : TableSeen) (v : SeatView) (base : Pinned) (act : Act)
+pub record MayCommit (t : TableState) (v : SeatView) (base : Pinned) (act : Act)
     (root : Option Name) : Type 0 where
   pub pinned : IsPinned v base
   pub head : base.version ≡ base.moment
@@ -34,7 +34,7 @@ pub record MayCommit (t : TableSeen) (v : SeatView) (base : Pinned) (act : Act)
   pub made : IsMadeOver v base.moment act root
 
 -- and under the log's turn: it is so if no other session was faster
-pub record MayCommitHere (t : TableSeen) (v : SeatView) (base : Pinned) (act : Act)
+pub record MayCommitHere (t : TableState) (v : SeatView) (base : Pinned) (act : Act)
     (root : Option Name) : Type 0 where
   pub edit : is_edit act ≡ true
   pub fits : FitsWorld (2 ^ t.plan.side) v.models act
@@ -43,7 +43,7 @@ pub record MayCommitHere (t : TableSeen) (v : SeatView) (base : Pinned) (act : A
 
 -- the act lies in the world and has an open target, what is kept of that target is right, and the
 -- root is what the act makes now
-pub record MayFinish (t : TableSeen) (v : SeatView) (ahead : Ahead) (act : Act)
+pub record MayFinish (t : TableState) (v : SeatView) (ahead : Lookahead) (act : Act)
     (root : Option Name) : Type 0 where
   pub fits : FitsWorld (2 ^ t.plan.side) v.models act
   pub target : HasOpenTarget v act
@@ -60,7 +60,7 @@ pub record IsCommitted (base : Pinned) (keep line : ℕ) (act : Act) (root : Opt
 pub record IsNotCommitted (base : Pinned) (root : Option Name) (e : CommitRefused)
     (v w : SeatView) : Type 0 where
   pub refused : RefusesCommit base root e w
-  pub looks : LooksOn v w
+  pub looks : OnlyReadsLog v w
   pub kept : w.held ≡ v.held
 
 abbrev pub CommitCame : Pinned → ℕ → ℕ → Act → Option Name → Result Committed CommitRefused
@@ -91,7 +91,7 @@ TryCame made base keep line act root (Err e) v w = IsNotTried made base root e v
 pub record IsNotFinished (root : Option Name) (e : SureRefused) (v w : SeatView) : Type 0 where
   pub refused : RefusesFinish root e w
   pub left : w ≡ log_left v
-  pub looks : LooksOn v w
+  pub looks : OnlyReadsLog v w
   pub kept : w.held ≡ v.held
 
 abbrev pub FinishCame : ℕ → ℕ → Act → Option Name → Result Committed SureRefused → SeatView

@@ -6,8 +6,8 @@ use Rattle.history_model.specs.Making.{MayMake}
 use Rattle.history_model.specs.Worlds.{World}
 use Rattle.node_words.specs.declared.shapes.names.Name.{Name}
 use Rattle.node_words.specs.shapes.Tree.{Tree}
-use Rattle.edit_walk.specs.blocks.Blocks.{GoesBack}
-use Rattle.table_rule.specs.LogTelling.{number_seen, seen_has}
+use Rattle.edit_walk.specs.blocks.Blocks.{ReturnsShare}
+use Rattle.table_rule.specs.LogFacts.{number_seen, seen_has}
 use Rattle.table_rule.specs.Views.{SeatView}
 use Rattle.version_log.specs.declared.answers.Pinned.{Pinned}
 use Rattle.version_log.specs.declared.answers.CommitRefused.{CommitRefused}
@@ -50,7 +50,7 @@ pub record AppendsNext (v : SeatView) (line : ℕ) (act : Act) (root : Option Na
   pub room : number_seen v < 65535
   pub by : Record
   pub own : IsOwnRecord v line act by
-  pub gone : GoesBack root v.held w.held
+  pub gone : ReturnsShare root v.held w.held
   pub busy : MetOthers v.numbers v.log.busy w.log.busy
   pub is : w ≡ with_own v by w.held w.log.busy
 

@@ -3,13 +3,13 @@ use Rattle.std.specs.Prelude.{◌≡◌, ◌⊎◌, ℕ, Option, Some, None}
 use Rattle.history_model.specs.declared.acts.Act.{Act}
 use Rattle.history_model.specs.declared.histories.Mark.{Mark}
 use Rattle.node_words.specs.declared.shapes.names.Name.{Name}
-use Rattle.table_rule.specs.LogTelling.{number_seen}
+use Rattle.table_rule.specs.LogFacts.{number_seen}
 use Rattle.table_rule.specs.Views.{SeatView}
 use Rattle.retain.specs.Retained.{falls_out}
 use Rattle.version_log.specs.declared.answers.Committed.{Committed}
 use Rattle.version_log.specs.Commits.{AppendsNext}
 use Rattle.version_log.specs.Forgets.{ForgetsVersion}
-use Rattle.version_log.specs.Seeing.{HasSeenMark, LooksOn}
+use Rattle.version_log.specs.Seeing.{HasSeenMark, OnlyReadsLog}
 
 -- the version had a mark, which is seen now and was made at no more than this length; no share
 -- came
@@ -19,7 +19,7 @@ pub record WasMarked (v : SeatView) (version n : ℕ) (fallen : Option Name)
   pub length : number_seen w ≡ n
   pub mark : Mark
   pub marked : HasSeenMark w version mark
-  pub looks : LooksOn v w
+  pub looks : OnlyReadsLog v w
   pub held : w.held ≡ v.held
 
 -- the version that falls out, where one does, was forgotten at this length, for this line, or it

@@ -1,7 +1,7 @@
 -- Why nothing was finished.
 use Rattle.std.specs.Prelude.{◌≡◌, Option}
 use Rattle.node_words.specs.declared.shapes.names.Name.{Name}
-use Rattle.table_rule.specs.LogTelling.{number_seen}
+use Rattle.table_rule.specs.LogFacts.{number_seen}
 use Rattle.table_rule.specs.Views.{SeatView}
 use Rattle.version_log.specs.declared.answers.SureRefused.{SureRefused}
 use Rattle.version_log.specs.declared.answers.SureRefused.TheVariants.{LogFull}

@@ -6,8 +6,8 @@ use Rattle.version_log.specs.declared.sures.Sure.{Sure}
 use Rattle.version_log.specs.Targets.{KnowsNext}
 
 -- what is kept of where an undo and a redo lead is as right as it was
-abbrev pub StaysAhead : Sure → Sure → Type 0
-StaysAhead s t = (act : Act) → KnowsNext s.pass.now.view.log.seen.records act s.ahead
+abbrev pub KeepsLookahead : Sure → Sure → Type 0
+KeepsLookahead s t = (act : Act) → KnowsNext s.pass.now.view.log.seen.records act s.ahead
     → KnowsNext t.pass.now.view.log.seen.records act t.ahead
 
 -- a call of a sure turn: it is of the same table and over the same pass, which has the log's turn
@@ -15,4 +15,4 @@ pub record KeepsSure (s t : Sure) : Type 0 where
   pub pass : t.pass.ghost_name ≡ s.pass.ghost_name
   pub table : t.table.now ≡ s.table.now
   pub turn : HasLogTurn t.table.now t.pass.now
-  pub ahead : StaysAhead s t
+  pub ahead : KeepsLookahead s t

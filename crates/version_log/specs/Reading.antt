@@ -4,7 +4,7 @@ use Rattle.std.proofs.Common.{refl, ◌∙◌}
 use Rattle.history_model.specs.declared.histories.Record.{Record}
 use Rattle.table_rule.specs.Views.{SeatView}
 use Rattle.node_table.specs.LogTurns.{HasLogTurn, LearnsLog}
-use Rattle.version_log.specs.declared.ahead.UnderTurn.{UnderTurn}
+use Rattle.version_log.specs.declared.lookahead.UnderTurn.{UnderTurn}
 
 abbrev pub records_read : UnderTurn → List Record
 records_read s = s.pass.now.view.log.seen.records

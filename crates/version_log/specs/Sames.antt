@@ -2,7 +2,7 @@
 use Rattle.std.specs.Prelude.{◌≡◌, ◌↔◌, ◌⊎◌, ◌^◌, ◌<◌, ◌≤◌, ℕ, IsTrue}
 use Rattle.std.specs.List.{Contains}
 use Rattle.core_laws.specs.contents.Versions.{IsUnmarked, SameWorld}
-use Rattle.table_rule.specs.LogTelling.{number_seen, seen_has}
+use Rattle.table_rule.specs.LogFacts.{number_seen, seen_has}
 use Rattle.table_rule.specs.Views.{SeatView}
 use Rattle.retain.specs.declared.comparing.SameAt.{SameAt}
 use Rattle.retain.specs.declared.comparing.SameRefused.{SameRefused}
@@ -16,7 +16,7 @@ pub record IsFoundOpen (x : SeatView) (version at : ℕ) : Type 0 where
   pub found : Contains x.log.found (record { version = version; at = at })
 
 -- both versions are there without a mark, and the answer is whether their cells agree
-pub record TellsSame (v w : ℕ) (s : SameAt) (x : SeatView) : Type 0 where
+pub record AnswersSame (v w : ℕ) (s : SameAt) (x : SeatView) : Type 0 where
   pub at : s.at ≡ number_seen x
   pub first : IsFoundOpen x v s.at
   pub second : IsFoundOpen x w s.at

@@ -7,17 +7,17 @@ use Rattle.table_rule.specs.LogKnowing.{IsPrefix}
 use Rattle.retain.specs.Listing.{Found}
 use Rattle.table_rule.specs.Rules.{SameSession}
 use Rattle.table_rule.specs.Views.{SeatView}
-use Rattle.table_rule.specs.LogTelling.{number_seen}
+use Rattle.table_rule.specs.LogFacts.{number_seen}
 use Rattle.node_table.specs.LogTurns.{HasNoTurn}
-use Rattle.node_table.specs.Seen.{BelongsTo, PassSeen, TableSeen}
+use Rattle.node_table.specs.TableStates.{BelongsTo, PassState, TableState}
 
 -- the pass is one of the table's, and has no turn
-pub record StandsFree (t : TableSeen) (s : PassSeen) : Type 0 where
+pub record StandsFree (t : TableState) (s : PassState) : Type 0 where
   pub of : BelongsTo t s
   pub idle : HasNoTurn s.view
 
 -- no pair of what was found is lost
-pub record FoundStays (old new : List Found) : Type 0 where
+pub record KeepsFound (old new : List Found) : Type 0 where
   pub each : (f : Found) → Contains old f → Contains new f
 
 -- each mark was made behind its version, at a length that the log has
@@ -32,7 +32,7 @@ pub record KnowsMore (v w : SeatView) : Type 0 where
   pub side : w.log.seen.side ≡ v.log.seen.side
   pub dated : IsDated v.log.seen → IsDated w.log.seen
   pub taken : w.log.taken ≡ v.log.taken
-  pub found : FoundStays v.log.found w.log.found
+  pub found : KeepsFound v.log.found w.log.found
 
 -- other sessions than these may have been met that had the log's turn
 pub record MetOthers (own old new : List ℕ) : Type 0 where
@@ -42,7 +42,7 @@ pub record MetOthers (own old new : List ℕ) : Type 0 where
 
 -- the same pass of the same session; what it made and met, and its own records and marks
 -- stay, and what it saw of the log may grow
-pub record LooksOn (v w : SeatView) : Type 0 where
+pub record OnlyReadsLog (v w : SeatView) : Type 0 where
   pub session : SameSession v w
   pub sees : KnowsMore v w
   pub records : w.log.records ≡ v.log.records

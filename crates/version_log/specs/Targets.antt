@@ -9,9 +9,9 @@ use Rattle.history_model.specs.Worlds.{World}
 use Rattle.node_words.specs.declared.shapes.names.Name.{Name}
 use Rattle.node_table.specs.Making.{Makes}
 use Rattle.table_rule.specs.Views.{SeatView}
-use Rattle.undo.specs.declared.standing.Standing.{Standing}
+use Rattle.undo.specs.declared.cursor.UndoCursor.{UndoCursor}
 use Rattle.undo.specs.Targets.{past_top, future_top}
-use Rattle.version_log.specs.declared.ahead.Ahead.{Ahead}
+use Rattle.version_log.specs.declared.lookahead.Lookahead.{Lookahead}
 use Rattle.version_log.specs.Roots.{HoldsRootOf}
 
 -- the version that an undo or a redo goes to; an edit goes to none
@@ -25,34 +25,34 @@ abbrev pub with_act : ℕ → ℕ → Act → Record
 with_act session line act = record { session = session; line = line; act = act }
 
 -- once a record with this act is appended this version stands, and this is the last edit
-pub record StandsNext (records : List Record) (act : Act) (now last : ℕ) : Type 0 where
+pub record NextCursor (records : List Record) (act : Act) (now last : ℕ) : Type 0 where
   pub now_is : (session line : ℕ)
       → (position_after (records ++ with_act session line act ∷ [])).now ≡ now
   pub last_is : (session line : ℕ)
       → last_edit (records ++ with_act session line act ∷ []) ≡ last
 
 -- the same of a standing that was looked up
-pub record StandsBehind (records : List Record) (act : Act) (s : Standing) : Type 0 where
-  pub next : StandsNext records act s.now s.last
+pub record IsNextCursor (records : List Record) (act : Act) (s : UndoCursor) : Type 0 where
+  pub next : NextCursor records act s.now s.last
   pub small : (s.now ≤ 65535) × (s.last ≤ 65535)
 
-abbrev pub nothing_kept : Ahead
-nothing_kept = record { undo = None; redo = None }
+abbrev pub no_lookahead : Lookahead
+no_lookahead = record { undo = None; redo = None }
 
 -- what is kept for an act; nothing is for an edit
-abbrev pub kept_for : Act → Ahead → Option Standing
-kept_for Undo a = a.undo
-kept_for Redo a = a.redo
-kept_for edit a = None
+abbrev pub lookahead_for : Act → Lookahead → Option UndoCursor
+lookahead_for Undo a = a.undo
+lookahead_for Redo a = a.redo
+lookahead_for edit a = None
 
-abbrev pub keep_for : Act → Option Standing → Ahead → Ahead
-keep_for Undo behind a = record a { undo = behind }
-keep_for Redo behind a = record a { redo = behind }
-keep_for edit behind a = a
+abbrev pub with_lookahead : Act → Option UndoCursor → Lookahead → Lookahead
+with_lookahead Undo behind a = record a { undo = behind }
+with_lookahead Redo behind a = record a { redo = behind }
+with_lookahead edit behind a = a
 
 -- what is kept for the act, where something is, is right for these records
-abbrev pub KnowsNext : List Record → Act → Ahead → Type 0
-KnowsNext records act a = IfSome (kept_for act a) (StandsBehind records act)
+abbrev pub KnowsNext : List Record → Act → Lookahead → Type 0
+KnowsNext records act a = IfSome (lookahead_for act a) (IsNextCursor records act)
 
 -- the root shows just the cells that the act makes at the length that is seen; there is none
 -- exactly where there are none

@@ -10,7 +10,7 @@ use Rattle.version_log.specs.declared.answers.CommitRefused.TheVariants.{LogFull
 use Rattle.version_log.specs.declared.answers.TryRefused.{TryRefused}
 use Rattle.version_log.specs.declared.answers.TryRefused.TheVariants as tries
 use Rattle.version_log.specs.Commits.{RefusesCommit}
-use Rattle.version_log.specs.Seeing.{LooksOn}
+use Rattle.version_log.specs.Seeing.{OnlyReadsLog}
 
 -- the same refusal, as one of a try
 abbrev pub tried : CommitRefused → TryRefused
@@ -20,7 +20,7 @@ tried (Stale now back) = tries.Stale now back
 -- the turn came at once, the log was looked at, and nothing was committed
 pub record RefusesAtOnce (base : Pinned) (root : Option Name) (e : CommitRefused)
     (v w : SeatView) : Type 0 where
-  pub looks : LooksOn v w
+  pub looks : OnlyReadsLog v w
   pub nobody : w.log.busy ≡ v.log.busy
   pub refused : RefusesCommit base root e w
 

@@ -6,9 +6,9 @@ ghost use Rattle.version_log.specs.Coming.{CommitCame, MayCommit, MayCommitHere}
 ghost use Rattle.version_log.specs.Falling.{CommitsAlone};
 ghost use Rattle.version_log.specs.Seeing.{StandsFree};
 
-use crate::ahead::nothing_kept;
 use crate::answers::{CommitRefused, Committed, Pinned};
 use crate::falling::append_kept;
+use crate::lookahead::no_lookahead;
 use history_model::Act;
 use node_table::{NodeTable, Pass, leave_log, log_length, take_log};
 use node_words::Share;
@@ -44,7 +44,7 @@ pub(crate) fn commit_here(
         leave_log(table, pass);
         return Err(CommitRefused::Stale { now: at, root });
     }
-    Ok(append_kept(table, pass, nothing_kept(), at, line, act, root, keep))
+    Ok(append_kept(table, pass, no_lookahead(), at, line, act, root, keep))
 }
 
 /// Appends an edit that was made of the head which was pinned, where the log hasn't grown

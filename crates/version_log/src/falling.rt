@@ -1,16 +1,16 @@
 // Records behind which the last versions alone are kept.
 ghost use Rattle.std.specs.Prelude.{◌≡◌, ◌<◌, ◌≤◌, Some, IfSome};
 ghost use Rattle.node_words.specs.shapes.Weights.{number_of_trees};
-ghost use Rattle.table_rule.specs.LogTelling.{number_seen};
+ghost use Rattle.table_rule.specs.LogFacts.{number_seen};
 ghost use Rattle.node_table.specs.LogTurns.{HasLogTurn, log_left};
 ghost use Rattle.retain.specs.Retained.{falls_out};
 ghost use Rattle.version_log.specs.Coming.{MayFinish};
 ghost use Rattle.version_log.specs.Falling.{CommitsNext, FallsOut};
 ghost use Rattle.version_log.specs.Seeing.{StandsFree};
 
-use crate::ahead::Ahead;
 use crate::answers::Committed;
 use crate::finishing::append_next;
+use crate::lookahead::Lookahead;
 use history_model::Act;
 use node_table::{NodeTable, Pass, leave_log, log_forget, log_mark};
 use node_words::Share;
@@ -51,7 +51,7 @@ fn forget_fallen(table: &NodeTable, pass: &mut Pass, v: u32, line: u32) -> Optio
 pub(crate) fn append_kept(
     table: &NodeTable,
     pass: &mut Pass,
-    ahead: Ahead,
+    ahead: Lookahead,
     at: u32,
     line: u32,
     act: &Act,

@@ -2,35 +2,40 @@
 ghost use Rattle.std.specs.Prelude.{◌≡◌, ◌<◌, ◌≤◌, false, IfOk, IfSome};
 ghost use Rattle.history_model.specs.Worlds.{is_edit};
 ghost use Rattle.node_words.specs.shapes.Weights.{number_of_trees};
-ghost use Rattle.table_rule.specs.LogTelling.{number_seen};
+ghost use Rattle.table_rule.specs.LogFacts.{number_seen};
 ghost use Rattle.table_rule.specs.LogChanges.{HasOpenTarget};
 ghost use Rattle.node_table.specs.LogTurns.{HasLogTurn, LearnsLog, log_left};
 ghost use Rattle.version_log.specs.Coming.{FinishCame, MayFinish};
 ghost use Rattle.version_log.specs.Commits.{AppendsNext};
 ghost use Rattle.version_log.specs.Falling.{CommitsAlone};
 ghost use Rattle.version_log.specs.Seeing.{StandsFree};
-ghost use Rattle.version_log.specs.Targets.{KnowsNext, StandsBehind};
+ghost use Rattle.version_log.specs.Targets.{KnowsNext, IsNextCursor};
 
-use crate::ahead::{Ahead, look_behind};
 use crate::answers::{Committed, SureRefused};
 use crate::commits::MOST_RECORDS;
 use crate::falling::append_kept;
+use crate::lookahead::{Lookahead, look_behind};
 use crate::words::{record_words, tell_numbers};
 use history_model::Act;
 use node_table::{NodeTable, Pass, leave_log, log_append_on, log_length};
 use node_words::Share;
-use undo::Standing;
+use undo::UndoCursor;
 
 // Where the history stands behind an undo or a redo that has a target: it is kept, or looked up
 // now.
-fn stands_behind(table: &NodeTable, pass: &mut Pass, kept: Option<Standing>, act: &Act) -> Standing
+fn cursor_behind(
+    table: &NodeTable,
+    pass: &mut Pass,
+    kept: Option<UndoCursor>,
+    act: &Act,
+) -> UndoCursor
     requires turn { HasLogTurn table.now pass.old }
     requires other { is_edit act.now ≡ false }
     requires target { HasOpenTarget pass.old.view act.now }
-    requires known { IfSome kept (StandsBehind pass.old.view.log.seen.records act.now) }
+    requires known { IfSome kept (IsNextCursor pass.old.view.log.seen.records act.now) }
     ensures turn { HasLogTurn table.now pass.new }
     ensures learns { LearnsLog pass.old.view pass.new.view }
-    ensures stands { StandsBehind pass.old.view.log.seen.records act.now result }
+    ensures stands { IsNextCursor pass.old.view.log.seen.records act.now result }
 {
     if let Some(standing) = kept {
         return standing;
@@ -42,7 +47,13 @@ fn stands_behind(table: &NodeTable, pass: &mut Pass, kept: Option<Standing>, act
 }
 
 // Where the history stands behind the next record. For an edit nothing is looked up.
-fn stands_next(table: &NodeTable, pass: &mut Pass, ahead: Ahead, act: &Act, at: u32) -> Standing
+fn cursor_ahead(
+    table: &NodeTable,
+    pass: &mut Pass,
+    ahead: Lookahead,
+    act: &Act,
+    at: u32,
+) -> UndoCursor
     requires turn { HasLogTurn table.now pass.old }
     requires at { at ≡ number_seen pass.old.view }
     requires room { at < 65535 }
@@ -50,11 +61,11 @@ fn stands_next(table: &NodeTable, pass: &mut Pass, ahead: Ahead, act: &Act, at: 
     requires known { KnowsNext pass.old.view.log.seen.records act.now ahead }
     ensures turn { HasLogTurn table.now pass.new }
     ensures learns { LearnsLog pass.old.view pass.new.view }
-    ensures stands { StandsBehind pass.old.view.log.seen.records act.now result }
+    ensures stands { IsNextCursor pass.old.view.log.seen.records act.now result }
 {
     match act {
-        Act::Undo | Act::Redo => stands_behind(table, pass, ahead.kept_for(act), act),
-        _ => Standing {
+        Act::Undo | Act::Redo => cursor_behind(table, pass, ahead.lookahead_for(act), act),
+        _ => UndoCursor {
             now: at + 1,
             last: at + 1,
         },
@@ -65,7 +76,7 @@ fn stands_next(table: &NodeTable, pass: &mut Pass, ahead: Ahead, act: &Act, at: 
 pub(crate) fn append_next(
     table: &NodeTable,
     pass: &mut Pass,
-    ahead: Ahead,
+    ahead: Lookahead,
     at: u32,
     line: u32,
     act: &Act,
@@ -85,7 +96,7 @@ pub(crate) fn append_next(
     pass.tell();
     tell_numbers(act);
     let number = pass.number();
-    let Standing { now, last } = stands_next(table, pass, ahead, act, at);
+    let UndoCursor { now, last } = cursor_ahead(table, pass, ahead, act, at);
     let words = record_words(act, now, last, number, line);
     log_append_on(table, pass, words, root)
 }
@@ -94,7 +105,7 @@ pub(crate) fn append_next(
 pub fn finish(
     table: &NodeTable,
     pass: &mut Pass,
-    ahead: Ahead,
+    ahead: Lookahead,
     line: u32,
     act: &Act,
     root: Option<Share>,

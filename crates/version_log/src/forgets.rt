@@ -2,7 +2,7 @@
 ghost use Rattle.std.specs.Prelude.{◌≡◌, ◌≤◌, IfOk, IfErr};
 ghost use Rattle.node_words.specs.shapes.Weights.{number_of_trees};
 ghost use Rattle.version_log.specs.Forgets.{ForgetsVersion, RefusesForget};
-ghost use Rattle.version_log.specs.Seeing.{StandsFree, LooksOn};
+ghost use Rattle.version_log.specs.Seeing.{StandsFree, OnlyReadsLog};
 
 use crate::answers::Forgot;
 use node_table::{NodeTable, Pass, leave_log, log_forget, log_length, log_mark, take_log};
@@ -23,7 +23,7 @@ pub fn forget<R: Wait>(
     ensures free { StandsFree table.now pass.new }
     ensures forgets { IfOk result (λ f. ForgetsVersion pass.old.view v line f pass.new.view) }
     ensures refused { IfErr result (λ e. RefusesForget v e pass.new.view) }
-    ensures looks { IfErr result (λ e. LooksOn pass.old.view pass.new.view) }
+    ensures looks { IfErr result (λ e. OnlyReadsLog pass.old.view pass.new.view) }
     ensures kept { IfErr result (λ e. pass.new.view.held ≡ pass.old.view.held) }
 {
     let number = pass.number();

@@ -27,13 +27,13 @@
 //! `leave_log`.
 #![tactic(auto)]
 
-mod ahead;
 mod answers;
 mod commits;
 mod falling;
 mod finishing;
 mod forgets;
 mod laws;
+mod lookahead;
 mod pins;
 mod roots;
 mod sames;
@@ -42,12 +42,12 @@ mod taking;
 mod tries;
 mod words;
 
-pub use ahead::{Ahead, Lead, nothing_kept, target};
 pub use answers::{CommitRefused, Committed, Forgot, Pinned, SureRefused, TryRefused};
 pub use commits::commit;
 pub use finishing::finish;
 pub use forgets::forget;
 pub use laws::{pins_stay_and_tell, sessions_alone_are_never_busy};
+pub use lookahead::{FoundTarget, Lookahead, no_lookahead, target};
 pub use pins::pin;
 pub use retain::{ForgetRefused, PinRefused, SameAt, SameRefused};
 pub use roots::keep_version;

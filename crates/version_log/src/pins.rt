@@ -3,7 +3,7 @@ ghost use Rattle.std.specs.Prelude.{◌≡◌, ◌≤◌, ◌+◌, IfOk, IfErr};
 ghost use Rattle.node_words.specs.shapes.Weights.{number_of_trees};
 ghost use Rattle.version_log.specs.Pins.{PinsVersion, RefusesPin, version_asked};
 ghost use Rattle.version_log.specs.Roots.{turns_for};
-ghost use Rattle.version_log.specs.Seeing.{StandsFree, LooksOn};
+ghost use Rattle.version_log.specs.Seeing.{StandsFree, OnlyReadsLog};
 
 use crate::answers::Pinned;
 use crate::roots::keep_version;
@@ -36,7 +36,7 @@ pub fn pin<R: Wait, L: Ledger>(
     requires free { StandsFree table.now pass.old }
     requires room { number_of_trees pass.old.view.held ≤ 3900 }
     ensures free { StandsFree table.now pass.new }
-    ensures looks { LooksOn pass.old.view pass.new.view }
+    ensures looks { OnlyReadsLog pass.old.view pass.new.view }
     ensures pinned { IfOk result (λ p. PinsVersion pass.old.view version p pass.new.view) }
     ensures refused { IfErr result (λ e. RefusesPin version e pass.new.view) }
     ensures kept { IfErr result (λ e. pass.new.view.held ≡ pass.old.view.held) }

@@ -1,7 +1,7 @@
 // Shares of the roots of versions, under the log's turn.
 ghost use Rattle.std.specs.Prelude.{◌≡◌, ◌≤◌, ◌+◌, Some, None, true};
 ghost use Rattle.node_words.specs.shapes.Weights.{number_of_trees};
-ghost use Rattle.table_rule.specs.LogTelling.{IsShownRoot, IsShownUnmarked, seen_has};
+ghost use Rattle.table_rule.specs.LogFacts.{IsShownRoot, IsShownUnmarked, seen_has};
 ghost use Rattle.node_table.specs.Acts.{OnlySharesChange};
 ghost use Rattle.node_table.specs.LogTurns.{HasLogTurn};
 ghost use Rattle.version_log.specs.Keeping.{OnlyKeeps};

@@ -1,10 +1,10 @@
 // Versions that are compared, and the head of the log.
 ghost use Rattle.std.specs.Prelude.{◌≡◌, ◌≢◌, ◌↔◌, ◌^◌, ℕ, IsTrue, IfOk, IfErr};
 ghost use Rattle.core_laws.specs.contents.Versions.{SameWorld};
-ghost use Rattle.table_rule.specs.LogTelling.{IsShownUnmarked, number_seen, seen_has};
+ghost use Rattle.table_rule.specs.LogFacts.{IsShownUnmarked, number_seen, seen_has};
 ghost use Rattle.node_table.specs.LogTurns.{HasLogTurn, LearnsLog};
-ghost use Rattle.version_log.specs.Sames.{IsFoundOpen, RefusesVersion, RefusesSame, TellsSame};
-ghost use Rattle.version_log.specs.Seeing.{StandsFree, LooksOn};
+ghost use Rattle.version_log.specs.Sames.{IsFoundOpen, RefusesVersion, RefusesSame, AnswersSame};
+ghost use Rattle.version_log.specs.Seeing.{StandsFree, OnlyReadsLog};
 
 use node_table::{NodeTable, Pass, leave_log, log_length, log_mark, log_root, take_log};
 use node_words::Name;
@@ -16,7 +16,7 @@ fn look_at(table: &NodeTable, pass: &mut Pass, at: u32, v: u32) -> Result<(), Sa
     requires turn { HasLogTurn table.now pass.old }
     requires at { at ≡ number_seen pass.old.view }
     ensures turn { HasLogTurn table.now pass.new }
-    ensures looks { LooksOn pass.old.view pass.new.view }
+    ensures looks { OnlyReadsLog pass.old.view pass.new.view }
     ensures held { pass.new.view.held ≡ pass.old.view.held }
     ensures number { number_seen pass.new.view ≡ at }
     ensures still { (u : ℕ) → IsShownUnmarked pass.old.view u
@@ -74,9 +74,9 @@ fn compare(
     requires turn { HasLogTurn table.now pass.old }
     requires at { at ≡ number_seen pass.old.view }
     ensures turn { HasLogTurn table.now pass.new }
-    ensures looks { LooksOn pass.old.view pass.new.view }
+    ensures looks { OnlyReadsLog pass.old.view pass.new.view }
     ensures held { pass.new.view.held ≡ pass.old.view.held }
-    ensures same { IfOk result (λ s. TellsSame v w s pass.new.view) }
+    ensures same { IfOk result (λ s. AnswersSame v w s pass.new.view) }
     ensures refused { IfErr result (λ e. RefusesSame v w e pass.new.view) }
 {
     if let Err(refused) = look_at(table, pass, at, v) {
@@ -102,9 +102,9 @@ fn compare_with(
     requires found { IsFoundOpen pass.old.view v at }
     requires other { v ≢ w }
     ensures turn { HasLogTurn table.now pass.new }
-    ensures looks { LooksOn pass.old.view pass.new.view }
+    ensures looks { OnlyReadsLog pass.old.view pass.new.view }
     ensures held { pass.new.view.held ≡ pass.old.view.held }
-    ensures same { IfOk result (λ s. TellsSame v w s pass.new.view) }
+    ensures same { IfOk result (λ s. AnswersSame v w s pass.new.view) }
     ensures refused { IfErr result (λ e. RefusesSame v w e pass.new.view) }
 {
     if let Err(refused) = look_at(table, pass, at, w) {
@@ -125,9 +125,9 @@ pub fn same<R: Wait>(
 ) -> Result<SameAt, SameRefused>
     requires free { StandsFree table.now pass.old }
     ensures free { StandsFree table.now pass.new }
-    ensures looks { LooksOn pass.old.view pass.new.view }
+    ensures looks { OnlyReadsLog pass.old.view pass.new.view }
     ensures held { pass.new.view.held ≡ pass.old.view.held }
-    ensures same { IfOk result (λ s. TellsSame v w s pass.new.view) }
+    ensures same { IfOk result (λ s. AnswersSame v w s pass.new.view) }
     ensures refused { IfErr result (λ e. RefusesSame v w e pass.new.view) }
 {
     take_log(rt, table, pass);
@@ -141,7 +141,7 @@ pub fn same<R: Wait>(
 pub fn head<R: Wait>(rt: &R, table: &NodeTable, pass: &mut Pass) -> u32
     requires free { StandsFree table.now pass.old }
     ensures free { StandsFree table.now pass.new }
-    ensures looks { LooksOn pass.old.view pass.new.view }
+    ensures looks { OnlyReadsLog pass.old.view pass.new.view }
     ensures held { pass.new.view.held ≡ pass.old.view.held }
     ensures number { result ≡ number_seen pass.new.view }
 {

@@ -2,10 +2,10 @@
 ghost use Rattle.std.specs.Prelude.{◌≡◌, ◌≤◌, ◌+◌, IfOk, IfSome};
 ghost use Rattle.std.specs.Borrow.{sem};
 ghost use Rattle.node_words.specs.shapes.Weights.{number_of_trees};
-ghost use Rattle.table_rule.specs.LogTelling.{IsShownRoot, IsShownUnmarked, number_seen, seen_has};
+ghost use Rattle.table_rule.specs.LogFacts.{IsShownRoot, IsShownUnmarked, number_seen, seen_has};
 ghost use Rattle.node_table.specs.LogTurns.{HasLogTurn, LearnsLog, LooksForMark};
 ghost use Rattle.node_table.specs.LogTurns.{log_left};
-ghost use Rattle.node_table.specs.Seen.{BelongsTo};
+ghost use Rattle.node_table.specs.TableStates.{BelongsTo};
 ghost use Rattle.version_log.specs.Coming.{FinishCame, MayFinish};
 ghost use Rattle.version_log.specs.Falling.{CommitsAlone};
 ghost use Rattle.version_log.specs.Keeping.{OnlyKeeps};
@@ -15,9 +15,9 @@ ghost use Rattle.version_log.specs.Roots.{GetsRoot, HoldsRootOf, turns_for};
 ghost use Rattle.version_log.specs.Seeing.{StandsFree};
 ghost use Rattle.version_log.specs.Targets.{KnowsNext, act_target};
 
-use crate::ahead::{Ahead, look_behind, version_of};
 use crate::answers::{Committed, SureRefused};
 use crate::finishing::finish;
+use crate::lookahead::{Lookahead, look_behind, version_of};
 use crate::roots::keep_version;
 use history_model::{Act, Mark};
 use node_table::{NodeTable, Pass, leave_log, log_length, log_mark, log_root};
@@ -31,7 +31,7 @@ use std::sync::ledger::Ledger;
 pub struct Sure<'a> {
     pub(crate) table: &'a NodeTable,
     pub(crate) pass: &'a mut Pass,
-    pub(crate) ahead: Ahead,
+    pub(crate) ahead: Lookahead,
 }
 
 impl<'a> Sure<'a> {
@@ -79,7 +79,7 @@ impl<'a> Sure<'a> {
             self.new.ahead }
     {
         let behind = look_behind(self.table, self.pass, act);
-        self.ahead = self.ahead.keep_for(act, behind);
+        self.ahead = self.ahead.with_lookahead(act, behind);
         version_of(behind)
     }
 

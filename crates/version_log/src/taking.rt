@@ -2,9 +2,9 @@
 ghost use Rattle.std.specs.Prelude.{◌≡◌};
 ghost use Rattle.node_table.specs.LogTurns.{HasLogTurn, TakesLog};
 ghost use Rattle.version_log.specs.Seeing.{StandsFree};
-ghost use Rattle.version_log.specs.Targets.{nothing_kept};
+ghost use Rattle.version_log.specs.Targets.{no_lookahead};
 
-use crate::ahead::nothing_kept;
+use crate::lookahead::no_lookahead;
 use crate::sures::Sure;
 use node_table::{NodeTable, Pass, take_log};
 use std::sync::Wait;
@@ -16,12 +16,12 @@ pub fn sure<'a, R: Wait>(rt: &R, table: &'a NodeTable, pass: &'a mut Pass) -> Su
     ensures table { result.table.now ≡ table.now }
     ensures turn { HasLogTurn table.now result.pass.now }
     ensures takes { TakesLog table.now.made pass.old.view result.pass.now.view }
-    ensures nothing { result.ahead ≡ nothing_kept }
+    ensures nothing { result.ahead ≡ no_lookahead }
 {
     take_log(rt, table, pass);
     Sure {
         table,
         pass,
-        ahead: nothing_kept(),
+        ahead: no_lookahead(),
     }
 }

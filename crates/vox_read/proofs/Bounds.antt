@@ -4,7 +4,7 @@ use Rattle.std.proofs.lemmas.Nat.{mul-le, mul-add-lt, same_from_place}
 use Rattle.vw_cell.specs.declared.cells.Cell.{Cell}
 use Rattle.vw_cell.specs.Counts.{IsBelow, number_below, number_below-le}
 use Rattle.vox_read.specs.declared.voxels.Voxel.{Voxel}
-use Rattle.vox_read.specs.Contents.{IsSize, StandsInside}
+use Rattle.vox_read.specs.Contents.{IsSize, IsInsideModel}
 use Rattle.vox_read.specs.Places.{voxel_place, index_of, volume_of}
 
 pub layer_small : (size : Cell) → IsSize size → size.y * size.z ≤ 256 * 256
@@ -21,16 +21,16 @@ pub index_below : (size c : Cell) → IsBelow size c → index_of size c < volum
 index_below size c b =
     mul-add-lt (c.z * size.y + c.y) size.x c.x (size.y * size.z) (row_below size c b) b.x
 
-pub place_below : (size : Cell) (v : Voxel) → StandsInside size v → IsBelow size (voxel_place v)
+pub place_below : (size : Cell) (v : Voxel) → IsInsideModel size v → IsBelow size (voxel_place v)
 place_below size v s = record { x = s.x; y = s.y; z = s.z }
 
 -- what the arithmetic of a place's number passes through
-pub rows_fit : (size : Cell) (v : Voxel) → IsSize size → StandsInside size v
+pub rows_fit : (size : Cell) (v : Voxel) → IsSize size → IsInsideModel size v
     → v.z * size.y + v.y < 65536
 rows_fit size v s inside =
     omega (arith, row_below size (voxel_place v) (place_below size v inside), layer_small size s)
 
-pub index_fits : (size : Cell) (v : Voxel) → IsSize size → StandsInside size v
+pub index_fits : (size : Cell) (v : Voxel) → IsSize size → IsInsideModel size v
     → (v.z * size.y + v.y) * size.x + v.x < 16777216
 index_fits size v s inside =
     omega (arith, index_below size (voxel_place v) (place_below size v inside), volume_small size s)

@@ -4,7 +4,7 @@ use Rattle.std.specs.List.{list_all}
 use Rattle.std.proofs.lemmas.List.Folds.{list_all-append}
 use Rattle.vw_cell.specs.declared.cells.Cell.{Cell}
 use Rattle.vox_read.specs.declared.voxels.Voxel.{Voxel}
-use Rattle.vox_read.specs.Fields.{voxels_of, stands_in}
+use Rattle.vox_read.specs.Fields.{voxels_of, is_voxel_in}
 
 pub one_voxel : (bytes : List ℕ) → length bytes ≡ 4
     → voxels_of bytes ≡ record
@@ -29,7 +29,7 @@ no_voxel (a ∷ b ∷ c ∷ d ∷ more) h = absurd (omega arith)
 -- these voxels, which stand inside the size, come before those of the rest
 pub record HasRead (size : Cell) (done : List Voxel) (rest bytes : List ℕ) : Type 0 where
   pub spelled : voxels_of bytes ≡ done ++ voxels_of rest
-  pub inside : list_all (stands_in size) done ≡ true
+  pub inside : list_all (is_voxel_in size) done ≡ true
 
 pub read_none : (size : Cell) (bytes : List ℕ) → HasRead size [] bytes bytes
 read_none size bytes = record { spelled = refl; inside = refl }
@@ -50,28 +50,28 @@ next_voxel (a ∷ b ∷ c ∷ []) front more v long of_front of_more one = absur
 pub read_more : (size : Cell) (done : List Voxel) (rest front more bytes : List ℕ) (v : Voxel)
     → HasRead size done rest bytes → 4 ≤ length rest → front ≡ take 4 rest → more ≡ drop 4 rest
     → voxels_of front ≡ v ∷ []
-    → stands_in size v ≡ true → HasRead size (done ++ v ∷ []) more bytes
+    → is_voxel_in size v ≡ true → HasRead size (done ++ v ∷ []) more bytes
 read_more size done rest front more bytes v read long of_front of_more one inside =
     let next : voxels_of rest ≡ v ∷ voxels_of more =
     next_voxel rest front more v long of_front of_more one in
     record {
       spelled = read.spelled ∙ ap (λ vs. done ++ vs) next
           ∙ sym (append_assoc done (v ∷ []) (voxels_of more));
-      inside = rw (list_all-append (stands_in size) done (v ∷ []), read.inside, inside) refl;
+      inside = rw (list_all-append (is_voxel_in size) done (v ∷ []), read.inside, inside) refl;
     }
 
 -- so a next voxel that stands outside breaks the rule
 pub more_outside : (size : Cell) (done : List Voxel) (rest front more bytes : List ℕ) (v : Voxel)
     → HasRead size done rest bytes → 4 ≤ length rest → front ≡ take 4 rest → more ≡ drop 4 rest
     → voxels_of front ≡ v ∷ []
-    → stands_in size v ≡ false → list_all (stands_in size) (voxels_of bytes) ≡ false
+    → is_voxel_in size v ≡ false → list_all (is_voxel_in size) (voxels_of bytes) ≡ false
 more_outside size done rest front more bytes v read long of_front of_more one outside =
     let next : voxels_of rest ≡ v ∷ voxels_of more =
     next_voxel rest front more v long of_front of_more one in
     rw (
       read.spelled,
       next,
-      list_all-append (stands_in size) done
+      list_all-append (is_voxel_in size) done
           (v ∷ voxels_of more),
       read.inside,
       outside,
@@ -79,7 +79,7 @@ more_outside size done rest front more bytes v read long of_front of_more one ou
 
 pub read_all : (size : Cell) (done : List Voxel) (rest bytes : List ℕ)
     → HasRead size done rest bytes → length rest < 4
-    → (list_all (stands_in size) (voxels_of bytes) ≡ true) × (done ≡ voxels_of bytes)
+    → (list_all (is_voxel_in size) (voxels_of bytes) ≡ true) × (done ≡ voxels_of bytes)
 read_all size done rest bytes read short =
     let all : voxels_of bytes ≡ done =
     read.spelled ∙ ap (λ vs. done ++ vs) (no_voxel rest short) ∙ append-nil done in

@@ -36,26 +36,26 @@ use Rattle.vw_cell.specs.declared.cells.Cell.{Cell}
 use Rattle.vw_cell.specs.Sums.{one_if}
 use Rattle.vw_cell.specs.Counts.{IsBelow, number_below, number_below-change, number_below-at, number_below-none}
 use Rattle.vox_read.specs.declared.voxels.Voxel.{Voxel}
-use Rattle.vox_read.specs.Contents.{is_cell, stands_at, colour_of, StandsInside, IsSize}
+use Rattle.vox_read.specs.Contents.{is_cell, is_voxel_at, colour_of, IsInsideModel, IsSize}
 use Rattle.vox_read.specs.Places.{voxel_place, index_of, volume_of}
 use Rattle.vox_read.specs.Marks.{Marks}
 use Rattle.vox_read.proofs.Bounds.{place_below, same_place, count_small}
 
 -- the last voxel decides at its own place
 is_cell-more : (voxels : List Voxel) (v : Voxel) (c : Cell)
-    → is_cell (voxels ++ v ∷ []) c ≡ cond (stands_at c v) (not (v.colour == 0)) (is_cell voxels c)
-is_cell-more voxels v c = rw reverse-append (cases (stands_at c v)) where
+    → is_cell (voxels ++ v ∷ []) c ≡ cond (is_voxel_at c v) (not (v.colour == 0)) (is_cell voxels c)
+is_cell-more voxels v c = rw reverse-append (cases (is_voxel_at c v)) where
   cases : (b : Bool)
-      → not (colour_of (cond b (Some v) (find (stands_at c) (reverse voxels))) == 0) ≡ cond b
+      → not (colour_of (cond b (Some v) (find (is_voxel_at c) (reverse voxels))) == 0) ≡ cond b
       (not (v.colour == 0)) (is_cell voxels c)
   cases true = refl
   cases false = refl
 
 -- the test of a place, both ways
-pub stands : (c : Cell) (v : Voxel) → v.x ≡ c.x → v.y ≡ c.y → v.z ≡ c.z → stands_at c v ≡ true
+pub stands : (c : Cell) (v : Voxel) → v.x ≡ c.x → v.y ≡ c.y → v.z ≡ c.z → is_voxel_at c v ≡ true
 stands c v x y z = rw (eq-eqb v.x c.x x, eq-eqb v.y c.y y, eq-eqb v.z c.z z) refl
 
-pub stands_tells : (c : Cell) (v : Voxel) → (stands_at c v ≡ true)
+pub stands_tells : (c : Cell) (v : Voxel) → (is_voxel_at c v ≡ true)
     → (v.x ≡ c.x) × (v.y ≡ c.y) × (v.z ≡ c.z)
 stands_tells c v h = (grind (arith, nat_tests), grind (arith, nat_tests), grind (arith, nat_tests))
 
@@ -67,18 +67,18 @@ stands_not true h = absurd (h refl)
 stands_not false h = refl
 
 -- at another place nothing changes
-elsewhere : (voxels : List Voxel) (v : Voxel) (c : Cell) → (stands_at c v ≡ true → ⊥)
+elsewhere : (voxels : List Voxel) (v : Voxel) (c : Cell) → (is_voxel_at c v ≡ true → ⊥)
     → is_cell (voxels ++ v ∷ []) c ≡ is_cell voxels c
-elsewhere voxels v c other = rw (is_cell-more voxels v c, stands_not (stands_at c v) other) refl
+elsewhere voxels v c other = rw (is_cell-more voxels v c, stands_not (is_voxel_at c v) other) refl
 
 -- at its own place it decides
-here : (voxels : List Voxel) (v : Voxel) (c : Cell) → stands_at c v ≡ true
+here : (voxels : List Voxel) (v : Voxel) (c : Cell) → is_voxel_at c v ≡ true
     → is_cell (voxels ++ v ∷ []) c ≡ not (v.colour == 0)
 here voxels v c at = rw (is_cell-more voxels v c, at) refl
 
 -- what the loop over the voxels keeps
 pub marks_more : (size : Cell) (voxels : List Voxel) (v : Voxel) (words words' : List ℕ)
-    (cells cells' : ℕ) (was now : Bool) → StandsInside size v → Marks size voxels words cells
+    (cells cells' : ℕ) (was now : Bool) → IsInsideModel size v → Marks size voxels words cells
     → was ≡ is_set words (index_of size (voxel_place v))
     → is_set words' (index_of size (voxel_place v)) ≡ now
     → ((j : ℕ) → j ≢ index_of size (voxel_place v) → is_set words' j ≡ is_set words j)
@@ -126,7 +126,7 @@ marks_none size words room clear =
 
 -- a bit that is set is a cell that is counted
 pub counted : (size : Cell) (voxels : List Voxel) (words : List ℕ) (cells : ℕ) (v : Voxel)
-    → StandsInside size v → Marks size voxels words cells
+    → IsInsideModel size v → Marks size voxels words cells
     → one_if (is_set words (index_of size (voxel_place v))) ≤ cells
 counted size voxels words cells v inside marks =
     let below : IsBelow size (voxel_place v) = place_below size v inside in
@@ -137,7 +137,7 @@ counted size voxels words cells v inside marks =
 -- one turn of the loop: the voxel at place k of the list, whose bit is number i
 pub marks_step : (size seen : Cell) (voxels items : List Voxel) (k i : ℕ) (words words' : List ℕ)
     (cells cells' : ℕ) (was now : Bool) (d : Voxel) → size ≡ seen → items ≡ voxels
-    → k < length items → All (StandsInside seen) voxels → Marks size (take k voxels) words cells
+    → k < length items → All (IsInsideModel seen) voxels → Marks size (take k voxels) words cells
     → i ≡ index_of size (voxel_place (get_or items k d))
     → was ≡ is_set words i → is_set words' i ≡ now
     → ((j : ℕ) → j ≢ i → is_set words' j ≡ is_set words j) → length words' ≡ length words
@@ -149,10 +149,10 @@ marks_step size seen voxels items k i words words' cells cells' was now d size_i
     ap (λ (xs : List Voxel). get_or xs k d) same in
     let at : i ≡ index_of size (voxel_place (get_or voxels k d)) =
     of_i ∙ ap (λ (v : Voxel). index_of size (voxel_place v)) item in
-    let stands_in : StandsInside size (get_or voxels k d) = rw size_is (all k d within) in
+    let is_voxel_in : IsInsideModel size (get_or voxels k d) = rw size_is (all k d within) in
     rw (take_more voxels k d within)
     (marks_more size (take k voxels)
-    (get_or voxels k d) words words' cells cells' was now stands_in marks
+    (get_or voxels k d) words words' cells cells' was now is_voxel_in marks
     (of_was ∙ ap (is_set words) at) (ap (is_set words') (sym at) ∙ of_here)
     (λ j other. of_others j (λ e. other (e ∙ at))) of_length
     (of_now ∙ ap (λ (v : Voxel). not (v.colour == 0)) item) of_count)
@@ -160,7 +160,7 @@ marks_step size seen voxels items k i words words' cells cells' was now d size_i
 -- a bit that the loop finds set is counted
 pub counted_step : (size seen : Cell) (voxels items : List Voxel) (k i : ℕ) (words : List ℕ)
     (cells : ℕ) (was : Bool) (d : Voxel) → size ≡ seen → items ≡ voxels
-    → k < length items → All (StandsInside seen) voxels → Marks size (take k voxels) words cells
+    → k < length items → All (IsInsideModel seen) voxels → Marks size (take k voxels) words cells
     → i ≡ index_of size (voxel_place (get_or items k d))
     → was ≡ is_set words i → one_if was ≤ cells
 counted_step size seen voxels items k i words cells was d size_is same inside all marks of_i of_was =
@@ -169,8 +169,8 @@ counted_step size seen voxels items k i words cells was d size_is same inside al
     ap (λ (xs : List Voxel). get_or xs k d) same in
     let at : i ≡ index_of size (voxel_place (get_or voxels k d)) =
     of_i ∙ ap (λ (v : Voxel). index_of size (voxel_place v)) item in
-    let stands_in : StandsInside size (get_or voxels k d) = rw size_is (all k d within) in
-    rw (of_was, at) (counted size (take k voxels) words cells (get_or voxels k d) stands_in marks)
+    let is_voxel_in : IsInsideModel size (get_or voxels k d) = rw size_is (all k d within) in
+    rw (of_was, at) (counted size (take k voxels) words cells (get_or voxels k d) is_voxel_in marks)
 
 -- the count of cells can still grow
 pub room_left : (size seen : Cell) (voxels : List Voxel) (words : List ℕ) (cells : ℕ) → size ≡ seen

@@ -10,8 +10,8 @@ use Rattle.vox_chunk.specs.declared.faults.VoxFault.{VoxFault}
 use Rattle.vox_chunk.specs.declared.faults.VoxFault.TheVariants.{ShortSize, SizeRange, ShortXyzi, VoxelOutside, TooManyModels}
 use Rattle.vox_chunk.specs.Frames.{Bounds, place_of, id_at, content_at}
 use Rattle.vox_read.specs.declared.voxels.Voxel.{Voxel}
-use Rattle.vox_read.specs.Contents.{Content, IsModelExtent, IsSize, StandsInside, IsModel, AreModels}
-use Rattle.vox_read.specs.Fields.{is_extent, is_size, size_in, size_fault, voxels_in, voxels_fault, holds_its_voxels, stands_in, xyzi_fault}
+use Rattle.vox_read.specs.Contents.{Content, IsModelExtent, IsSize, IsInsideModel, IsModel, AreModels}
+use Rattle.vox_read.specs.Fields.{is_extent, is_size, size_in, size_fault, voxels_in, voxels_fault, holds_its_voxels, is_voxel_in, xyzi_fault}
 use Rattle.vox_read.specs.Children.{is_size_id, is_xyzi_id, waiting_at, model_with, models_before}
 use Rattle.vox_read.specs.Files.{AreRead, HasModels}
 
@@ -30,18 +30,18 @@ size_of size is =
     let yz = both (is_extent size.y) (is_extent size.z) x.1 in
     record { x = extent_of size.x x.0; y = extent_of size.y yz.0; z = extent_of size.z yz.1 }
 
-stands_of : (size : Cell) (v : Voxel) → stands_in size v ≡ true → StandsInside size v
+stands_of : (size : Cell) (v : Voxel) → is_voxel_in size v ≡ true → IsInsideModel size v
 stands_of size v is =
     let x = both (nat_lt v.x size.x) (nat_lt v.y size.y && nat_lt v.z size.z) is in
     let yz = both (nat_lt v.y size.y) (nat_lt v.z size.z) x.1 in
     record { x = ltb-true v.x size.x x.0; y = ltb-true v.y size.y yz.0; z = ltb-true v.z size.z yz.1 }
 
-all_stand : (size : Cell) (voxels : List Voxel) → list_all (stands_in size) voxels ≡ true
-    → All (StandsInside size) voxels
-all_stand size [] is = All-nil (StandsInside size)
+all_stand : (size : Cell) (voxels : List Voxel) → list_all (is_voxel_in size) voxels ≡ true
+    → All (IsInsideModel size) voxels
+all_stand size [] is = All-nil (IsInsideModel size)
 all_stand size (v ∷ more) is =
-    let parts = both (stands_in size v) (list_all (stands_in size) more) is in
-    All-cons (StandsInside size) v more (stands_of size v parts.0) (all_stand size more parts.1)
+    let parts = both (is_voxel_in size v) (list_all (is_voxel_in size) more) is in
+    All-cons (IsInsideModel size) v more (stands_of size v parts.0) (all_stand size more parts.1)
 
 -- what follows where no rule is broken
 passes : (b : Bool) (fault : VoxFault) (rest : Option VoxFault)
@@ -84,7 +84,7 @@ with_model size content place models is_size are fine =
     (voxels_fault place size content) fine in
     let long = holds (holds_its_voxels content) (ShortXyzi place) _ few.1 in
     let inside =
-    in_range (list_all (stands_in size) (voxels_in content)) (VoxelOutside place) long.1 in
+    in_range (list_all (is_voxel_in size) (voxels_in content)) (VoxelOutside place) long.1 in
     let below : length models < 1024 = leb-false 1024 (length models) few.0 in
     let m : Content = record { size = size; voxels = voxels_in content } in
     let longer : length (models ++ m ∷ []) ≡ length models + 1 = length-append models (m ∷ []) in

@@ -9,8 +9,8 @@ pub record Content : Type 0 where
   pub size : Cell
   pub voxels : List Voxel
 
-abbrev pub stands_at : Cell → Voxel → Bool
-stands_at p v = (v.x == p.x) && (v.y == p.y) && (v.z == p.z)
+abbrev pub is_voxel_at : Cell → Voxel → Bool
+is_voxel_at p v = (v.x == p.x) && (v.y == p.y) && (v.z == p.z)
 
 abbrev pub colour_of : Option Voxel → ℕ
 colour_of None = 0
@@ -18,7 +18,7 @@ colour_of (Some v) = v.colour
 
 -- the colour of the last voxel at a place, 0 where there is none
 abbrev pub colour_at : List Voxel → Cell → ℕ
-colour_at voxels p = colour_of (find (stands_at p) (reverse voxels))
+colour_at voxels p = colour_of (find (is_voxel_at p) (reverse voxels))
 
 -- a cell of a model is a place whose last voxel has a colour other than 0
 abbrev pub is_cell : List Voxel → Cell → Bool
@@ -43,7 +43,7 @@ pub record IsSize (size : Cell) : Type 0 where
   pub z : IsModelExtent size.z
 
 -- the voxel stands inside a model of this size, whatever its colour
-pub record StandsInside (size : Cell) (v : Voxel) : Type 0 where
+pub record IsInsideModel (size : Cell) (v : Voxel) : Type 0 where
   pub x : v.x < size.x
   pub y : v.y < size.y
   pub z : v.z < size.z
@@ -51,7 +51,7 @@ pub record StandsInside (size : Cell) (v : Voxel) : Type 0 where
 -- a model that a file can hold
 pub record IsModel (m : Content) : Type 0 where
   pub size : IsSize m.size
-  pub voxels : All (StandsInside m.size) m.voxels
+  pub voxels : All (IsInsideModel m.size) m.voxels
 
 -- the models that a file can hold
 pub record AreModels (models : List Content) : Type 0 where

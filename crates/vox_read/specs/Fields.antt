@@ -41,14 +41,14 @@ holds_its_voxels content =
     nat_le 4 (length content) && nat_le (4 + 4 * number_at content 0) (length content)
 
 -- the voxel stands inside a model of this size, whatever its colour
-abbrev pub stands_in : Cell → Voxel → Bool
-stands_in size v = nat_lt v.x size.x && (nat_lt v.y size.y && nat_lt v.z size.z)
+abbrev pub is_voxel_in : Cell → Voxel → Bool
+is_voxel_in size v = nat_lt v.x size.x && (nat_lt v.y size.y && nat_lt v.z size.z)
 
 -- the rule that the voxels of a model of this size break
 abbrev pub voxels_fault : ℕ → Cell → List ℕ → Option VoxFault
 voxels_fault place size content =
     if holds_its_voxels content
-    then (if list_all (stands_in size) (voxels_in content) then None
+    then (if list_all (is_voxel_in size) (voxels_in content) then None
     else Some (VoxelOutside place))
     else Some (ShortXyzi place)
 

@@ -1,6 +1,6 @@
 ghost use Rattle.std.specs.Prelude.{◌≡◌, ◌+◌, ◌*◌, ◌^◌, ◌<◌, ◌≤◌, IfOk};
 ghost use Rattle.vw_cell.specs.Sums.{one_if};
-ghost use Rattle.vox_read.specs.Contents.{IsModel, IsSize, StandsInside, cells_in_size};
+ghost use Rattle.vox_read.specs.Contents.{IsModel, IsSize, IsInsideModel, cells_in_size};
 ghost use Rattle.vox_read.specs.Marks.{Marks};
 ghost use Rattle.vox_read.specs.Places.{index_of, voxel_place, volume_of};
 
@@ -57,7 +57,7 @@ fn volume(size: Cell) -> usize
 #[tactic(auto, using(crate::proofs::Bounds::index_fits))]
 pub(crate) fn index(size: Cell, v: Voxel) -> usize
     requires size { IsSize size }
-    requires inside { StandsInside size v }
+    requires inside { IsInsideModel size v }
     ensures { result ≡ index_of size (voxel_place v) }
 {
     (usize::from(v.z) * usize::from(size.y) + usize::from(v.y)) * usize::from(size.x)

@@ -1,6 +1,6 @@
 ghost use Rattle.std.specs.Prelude.{◌≡◌, ℕ, ◌+◌, ◌*◌, ◌^◌, ◌<◌, ◌≤◌, [], ◌∷◌, true, None, Some, length, take, drop, MatchResult, IfOk, IfErr};
 ghost use Rattle.vox_chunk.specs.Frames.{number_at};
-ghost use Rattle.vox_read.specs.Fields.{is_extent, size_in, size_fault, voxels_of, voxels_in, voxels_fault, holds_its_voxels, stands_in};
+ghost use Rattle.vox_read.specs.Fields.{is_extent, size_in, size_fault, voxels_of, voxels_in, voxels_fault, holds_its_voxels, is_voxel_in};
 ghost use Rattle.std.specs.List.{list_all};
 ghost use Rattle.vox_read.specs.Refusals.{SaysBroken, SaysOutside};
 
@@ -67,17 +67,17 @@ pub(crate) fn read_model(alloc: Global, size: Cell, chunk: &Chunk<'_>) -> Result
 #[tactic(auto, using(crate::proofs::Grouping::read_none, crate::proofs::Grouping::read_more, crate::proofs::Grouping::more_outside, crate::proofs::Grouping::read_all))]
 fn read_voxels(alloc: Global, size: Cell, bytes: &[u8], at: u32) -> Result<Vec<Voxel>, VoxFault>
     ensures read { IfOk result
-        (λ voxels. (list_all (stands_in size) (voxels_of bytes.now) ≡ true)
+        (λ voxels. (list_all (is_voxel_in size) (voxels_of bytes.now) ≡ true)
         × (voxels.items ≡ voxels_of bytes.now)) }
     ensures refused { IfErr result
-        (λ fault. SaysOutside fault at (list_all (stands_in size) (voxels_of bytes.now))) }
+        (λ fault. SaysOutside fault at (list_all (is_voxel_in size) (voxels_of bytes.now))) }
 {
     let mut voxels = Vec::with_capacity(alloc, bytes.len() / 4)?;
     let mut rest = bytes;
     while rest.len() >= 4 {
         let (front, more) = rest.split_at(4);
         let voxel = voxel_of(front);
-        if !stands_in(size, voxel) {
+        if !is_voxel_in(size, voxel) {
             return Err(VoxFault::VoxelOutside(at));
         }
         voxels.push(voxel)?;
@@ -99,8 +99,8 @@ fn voxel_of(bytes: &[u8]) -> Voxel
     }
 }
 
-fn stands_in(size: Cell, v: Voxel) -> bool
-    ensures { result ≡ stands_in size v }
+fn is_voxel_in(size: Cell, v: Voxel) -> bool
+    ensures { result ≡ is_voxel_in size v }
 {
     u16::from(v.x) < size.x && u16::from(v.y) < size.y && u16::from(v.z) < size.z
 }

@@ -13,10 +13,10 @@ use Rattle.vox_read.specs.Once.{one_reading}
 use Rattle.vox_scene.specs.declared.faults.SceneFault.{SceneFault}
 use Rattle.vox_scene.specs.declared.faults.SceneFault.TheVariants.{ShortNode, TwoNodes, BadRotation, BadTranslation, NoNode, TooDeep, NoModel, TooMany, TooLarge, Memory}
 use Rattle.vox_scene.specs.declared.nodes.Node.{Node}
-use Rattle.vox_scene.specs.declared.turnings.Vector.{Vector}
+use Rattle.vox_scene.specs.declared.rotations.Vector.{Vector}
 use Rattle.vox_scene.specs.Reading.{AreNodes, IsFirstNodeFault, NodesAreRead, nodes_before, scene_fault_at}
-use Rattle.vox_scene.specs.Placing.{Stand, IsLeast, IsLeastCorner, EndsWithin, AllEndWithin, IsTooLarge, file_length, turned_size, stands_of}
-use Rattle.vox_scene.specs.Scenes.{HasStands, HasLarge, HasTooLarge, ReadsScene}
+use Rattle.vox_scene.specs.Placing.{SceneInstance, IsLeast, IsLeastCorner, EndsWithin, AllEndWithin, IsTooLarge, file_length, rotated_size, instances_of}
+use Rattle.vox_scene.specs.Scenes.{HasInstances, HasLarge, HasTooLarge, ReadsScene}
 use Rattle.vox_scene.specs.Judged.{IsPlaceable, JudgesScene, ScenesAreJudged, ScenesAreJudgedOnce}
 use Rattle.vox_scene.proofs.Leasts.{least_none}
 use Rattle.vox_scene.proofs.Refusing.{no_first, no_stands}
@@ -102,25 +102,25 @@ abbrev models_of : Result (List Content) VoxFault → List Content
 models_of (Ok models) = models
 models_of (Err fault) = []
 
-one_stands : (bytes : List ℕ) (a b : Result (List Stand) SceneFault) → HasStands bytes a
-    → HasStands bytes b → a ≡ b
+one_stands : (bytes : List ℕ) (a b : Result (List SceneInstance) SceneFault) → HasInstances bytes a
+    → HasInstances bytes b → a ≡ b
 one_stands bytes a b of_a of_b =
     let models : of_a.models ≡ of_b.models =
     ap models_of (one_reading bytes (read of_a.models) (read of_b.models) of_a.has of_b.has) in
     let nodes : of_a.nodes ≡ of_b.nodes = one_nodes bytes of_a.nodes of_b.nodes of_a.are of_b.are in
-    sym of_a.walked ∙ ap (λ (ms : List Content). stands_of ms of_a.nodes) models
-    ∙ ap (λ (ns : List Node). stands_of of_b.models ns) nodes ∙ of_b.walked
+    sym of_a.walked ∙ ap (λ (ms : List Content). instances_of ms of_a.nodes) models
+    ∙ ap (λ (ns : List Node). instances_of of_b.models ns) nodes ∙ of_b.walked
 
 -- ---- one least corner, where anything stands
 
-no_one : (xs : List Stand) (x : Stand) → xs ≡ [] → Contains xs x → ⊥
+no_one : (xs : List SceneInstance) (x : SceneInstance) → xs ≡ [] → Contains xs x → ⊥
 no_one xs x none (k, lt, is) = let long = ap length none in omega (arith, lt, long)
 
-one_least : (entry : Stand → ℤ) (stands : List Stand) (s : Stand) (a b : ℤ) → Contains stands s
+one_least : (entry : SceneInstance → ℤ) (stands : List SceneInstance) (s : SceneInstance) (a b : ℤ) → Contains stands s
     → IsLeast entry stands a → IsLeast entry stands b → a ≡ b
 one_least entry stands s a b some of_a of_b = meet of_a.met of_b.met where
-  meet : (stands ≡ []) ⊎ ((t : Stand) × Contains stands t × (entry t ≡ a))
-      → (stands ≡ []) ⊎ ((t : Stand) × Contains stands t × (entry t ≡ b)) → a ≡ b
+  meet : (stands ≡ []) ⊎ ((t : SceneInstance) × Contains stands t × (entry t ≡ a))
+      → (stands ≡ []) ⊎ ((t : SceneInstance) × Contains stands t × (entry t ≡ b)) → a ≡ b
   meet (inl none) met = absurd (no_one stands s none some)
   meet met (inl none) = absurd (no_one stands s none some)
   meet (inr (t, has_t, is_a)) (inr (u, has_u, is_b)) =
@@ -128,7 +128,7 @@ one_least entry stands s a b some of_a of_b = meet of_a.met of_b.met where
       let high : a ≤ℤ entry u = All-contains (λ x. a ≤ℤ entry x) stands u of_a.below has_u in
       omega (arith, ints, low, high, is_a, is_b)
 
-one_corner : (stands : List Stand) (s : Stand) (a b : Vector) → Contains stands s
+one_corner : (stands : List SceneInstance) (s : SceneInstance) (a b : Vector) → Contains stands s
     → IsLeastCorner stands a → IsLeastCorner stands b → a ≡ b
 one_corner stands s a b some of_a of_b =
     let x = one_least (λ t. t.corner.x) stands s a.x b.x some of_a.x of_b.x in
@@ -136,7 +136,7 @@ one_corner stands s a b some of_a of_b =
     let z = one_least (λ t. t.corner.z) stands s a.z b.z some of_a.z of_b.z in
     λ i. record { x = x i; y = y i; z = z i }
 
-not_both : (stands : List Stand) (a b : Vector) → IsLeastCorner stands a → IsLeastCorner stands b
+not_both : (stands : List SceneInstance) (a b : Vector) → IsLeastCorner stands a → IsLeastCorner stands b
     → IsTooLarge a stands → (IsTooLarge b stands → ⊥) → ⊥
 not_both [] a b of_a of_b (inl over) small = over (All-nil (EndsWithin a 4096))
 not_both [] a b of_a of_b (inr long) small = small (inr long)
@@ -147,7 +147,7 @@ not_both (s ∷ more) a b of_a of_b large small =
 -- ---- what a fault says, in one form
 
 abbrev Faulty : List ℕ → SceneFault → Type 0
-Faulty bytes fault = (IsFirstNodeFault bytes fault ⊎ HasStands bytes (Err fault))
+Faulty bytes fault = (IsFirstNodeFault bytes fault ⊎ HasInstances bytes (Err fault))
     ⊎ ((fault ≡ TooLarge) × HasTooLarge bytes)
 
 faulty : (bytes : List ℕ) (fault : SceneFault) → ReadsScene bytes (Err fault) → Faulty bytes fault
@@ -162,23 +162,23 @@ faulty bytes (TooMany at) says = inl says
 faulty bytes TooLarge says = inr (refl, says)
 faulty bytes Memory says = inl says
 
-abbrev stood : List Stand → Result (List Stand) SceneFault
+abbrev stood : List SceneInstance → Result (List SceneInstance) SceneFault
 stood stands = Ok stands
 
-abbrev failed : SceneFault → Result (List Stand) SceneFault
+abbrev failed : SceneFault → Result (List SceneInstance) SceneFault
 failed fault = Err fault
 
 err_is : (a b : SceneFault) → failed a ≡ failed b → a ≡ b
 err_is a b e = cc
 
-ok_is : (a b : List Stand) → stood a ≡ stood b → a ≡ b
+ok_is : (a b : List SceneInstance) → stood a ≡ stood b → a ≡ b
 ok_is a b e = cc
 
-ok_or_err : (a : List Stand) (fault : SceneFault) → stood a ≡ failed fault → ⊥
+ok_or_err : (a : List SceneInstance) (fault : SceneFault) → stood a ≡ failed fault → ⊥
 ok_or_err a fault e = (let wrong : ⊥ = cc in wrong)
 
-stands_or_fault : (bytes : List ℕ) (says : Result (List Stand) SceneFault) (fault : SceneFault)
-    → HasStands bytes says → IsFirstNodeFault bytes fault → ⊥
+stands_or_fault : (bytes : List ℕ) (says : Result (List SceneInstance) SceneFault) (fault : SceneFault)
+    → HasInstances bytes says → IsFirstNodeFault bytes fault → ⊥
 stands_or_fault bytes says fault has first = nodes_or_fault bytes has.nodes fault has.are first
 
 one_faulty : (bytes : List ℕ) (a b : SceneFault) → Faulty bytes a → Faulty bytes b → a ≡ b
@@ -209,7 +209,7 @@ placed_or_faulty bytes fault placed (inr (is, large)) =
     let same : large.stands ≡ placed.stands =
     ok_is large.stands placed.stands
     (one_stands bytes (Ok large.stands) (Ok placed.stands) large.has placed.has) in
-    let of_large : HasLarge placed.stands = subst (λ (s : List Stand). HasLarge s) same large.is in
+    let of_large : HasLarge placed.stands = subst (λ (s : List SceneInstance). HasLarge s) same large.is in
     not_both placed.stands of_large.least placed.least of_large.is_least placed.is_least
     of_large.large placed.small
 
@@ -272,24 +272,24 @@ order : (a b : ℤ) → (a ≤ℤ b) ⊎ ((a ≤ℤ b) → ⊥)
 order a b =
     by_lt_z {P = (a ≤ℤ b) ⊎ ((a ≤ℤ b) → ⊥)} b a (λ lt. inr (λ le. clash_ℤ lt le)) (λ le. inl le)
 
-below_all : (entry : Stand → ℤ) (least lower : ℤ) (stands : List Stand) → lower ≤ℤ least
+below_all : (entry : SceneInstance → ℤ) (least lower : ℤ) (stands : List SceneInstance) → lower ≤ℤ least
     → All (λ s. least ≤ℤ entry s) stands → All (λ s. lower ≤ℤ entry s) stands
 below_all entry least lower stands le all =
     λ k d lt. (let of_s = all k d lt in omega (arith, ints, le, of_s))
 
-later : (entry : Stand → ℤ) (s t : Stand) (more : List Stand) (least : ℤ)
+later : (entry : SceneInstance → ℤ) (s t : SceneInstance) (more : List SceneInstance) (least : ℤ)
     → IsLeast entry (t ∷ more) least → least ≤ℤ entry s → IsLeast entry (s ∷ t ∷ more) least
 later entry s t more least is le = record {
   below = All-cons (λ x. least ≤ℤ entry x) s (t ∷ more) le is.below;
   met = shifted is.met;
 }
   where
-    shifted : (t ∷ more ≡ []) ⊎ ((x : Stand) × Contains (t ∷ more) x × (entry x ≡ least))
-        → (s ∷ t ∷ more ≡ []) ⊎ ((x : Stand) × Contains (s ∷ t ∷ more) x × (entry x ≡ least))
+    shifted : (t ∷ more ≡ []) ⊎ ((x : SceneInstance) × Contains (t ∷ more) x × (entry x ≡ least))
+        → (s ∷ t ∷ more ≡ []) ⊎ ((x : SceneInstance) × Contains (s ∷ t ∷ more) x × (entry x ≡ least))
     shifted (inl none) = absurd (let long = ap length none in omega (arith, long))
     shifted (inr (x, (k, lt, is_x), same)) = inr (x, (suc k, omega (arith, lt), is_x), same)
 
-sooner : (entry : Stand → ℤ) (s t : Stand) (more : List Stand) (least : ℤ)
+sooner : (entry : SceneInstance → ℤ) (s t : SceneInstance) (more : List SceneInstance) (least : ℤ)
     → IsLeast entry (t ∷ more) least → entry s ≤ℤ least → IsLeast entry (s ∷ t ∷ more) (entry s)
 sooner entry s t more least is le = record {
   below = All-cons (λ x. entry s ≤ℤ entry x) s (t ∷ more) (≤ℤ_refl (entry s))
@@ -297,7 +297,7 @@ sooner entry s t more least is le = record {
   met = inr (s, (0, omega arith, refl), refl);
 }
 
-least_of : (entry : Stand → ℤ) (stands : List Stand) → (least : ℤ) × IsLeast entry stands least
+least_of : (entry : SceneInstance → ℤ) (stands : List SceneInstance) → (least : ℤ) × IsLeast entry stands least
 least_of entry [] = (pos 0, least_none entry (pos 0))
 least_of entry (s ∷ []) = (
   entry s,
@@ -315,7 +315,7 @@ least_of entry (s ∷ t ∷ more) = next (least_of entry (t ∷ more)) where
       (λ lt. (entry s, sooner entry s t more least is (omega (arith, ints, lt))))
       (λ le. (least, later entry s t more least is le))
 
-all_or_not : (P : Stand → Type 0) → ((s : Stand) → P s ⊎ (P s → ⊥)) → (stands : List Stand)
+all_or_not : (P : SceneInstance → Type 0) → ((s : SceneInstance) → P s ⊎ (P s → ⊥)) → (stands : List SceneInstance)
     → All P stands ⊎ (All P stands → ⊥)
 all_or_not P decides [] = inl (All-nil P)
 all_or_not P decides (s ∷ more) = next (decides s) (all_or_not P decides more) where
@@ -325,20 +325,20 @@ all_or_not P decides (s ∷ more) = next (decides s) (all_or_not P decides more)
   next (inr never) rest = inr (λ all. never (All-head P s more all))
   next (inl of_s) (inr never) = inr (λ all. never (All-tail P s more all))
 
-ends_or_not : (least : Vector) (side : ℕ) (s : Stand)
+ends_or_not : (least : Vector) (side : ℕ) (s : SceneInstance)
     → EndsWithin least side s ⊎ (EndsWithin least side s → ⊥)
 ends_or_not least side s = next
-    (order (s.corner.x +ℤ pos (turned_size s.turning s.model.size).x) (least.x +ℤ pos side))
-    (order (s.corner.y +ℤ pos (turned_size s.turning s.model.size).y) (least.y +ℤ pos side))
-    (order (s.corner.z +ℤ pos (turned_size s.turning s.model.size).z) (least.z +ℤ pos side)) where
-      next : ((s.corner.x +ℤ pos (turned_size s.turning s.model.size).x) ≤ℤ (least.x +ℤ pos side))
-          ⊎ (((s.corner.x +ℤ pos (turned_size s.turning s.model.size).x) ≤ℤ (least.x +ℤ pos side))
+    (order (s.corner.x +ℤ pos (rotated_size s.axis_map s.model.size).x) (least.x +ℤ pos side))
+    (order (s.corner.y +ℤ pos (rotated_size s.axis_map s.model.size).y) (least.y +ℤ pos side))
+    (order (s.corner.z +ℤ pos (rotated_size s.axis_map s.model.size).z) (least.z +ℤ pos side)) where
+      next : ((s.corner.x +ℤ pos (rotated_size s.axis_map s.model.size).x) ≤ℤ (least.x +ℤ pos side))
+          ⊎ (((s.corner.x +ℤ pos (rotated_size s.axis_map s.model.size).x) ≤ℤ (least.x +ℤ pos side))
           → ⊥)
-          → ((s.corner.y +ℤ pos (turned_size s.turning s.model.size).y) ≤ℤ (least.y +ℤ pos side))
-          ⊎ (((s.corner.y +ℤ pos (turned_size s.turning s.model.size).y) ≤ℤ (least.y +ℤ pos side))
+          → ((s.corner.y +ℤ pos (rotated_size s.axis_map s.model.size).y) ≤ℤ (least.y +ℤ pos side))
+          ⊎ (((s.corner.y +ℤ pos (rotated_size s.axis_map s.model.size).y) ≤ℤ (least.y +ℤ pos side))
           → ⊥)
-          → ((s.corner.z +ℤ pos (turned_size s.turning s.model.size).z) ≤ℤ (least.z +ℤ pos side))
-          ⊎ (((s.corner.z +ℤ pos (turned_size s.turning s.model.size).z) ≤ℤ (least.z +ℤ pos side))
+          → ((s.corner.z +ℤ pos (rotated_size s.axis_map s.model.size).z) ≤ℤ (least.z +ℤ pos side))
+          ⊎ (((s.corner.z +ℤ pos (rotated_size s.axis_map s.model.size).z) ≤ℤ (least.z +ℤ pos side))
           → ⊥)
           → EndsWithin least side s ⊎ (EndsWithin least side s → ⊥)
       next (inr never) y z = inr (λ e. never e.x)
@@ -346,7 +346,7 @@ ends_or_not least side s = next
       next (inl x) (inl y) (inr never) = inr (λ e. never e.z)
       next (inl x) (inl y) (inl z) = inl (record { x = x; y = y; z = z })
 
-large_or_not : (least : Vector) (stands : List Stand)
+large_or_not : (least : Vector) (stands : List SceneInstance)
     → IsTooLarge least stands ⊎ (IsTooLarge least stands → ⊥)
 large_or_not least stands =
     next (all_or_not (EndsWithin least 4096) (ends_or_not least 4096) stands)
@@ -361,14 +361,14 @@ large_or_not least stands =
         neither_way (inl never) = never all
         neither_way (inr long) = omega (arith, long, short)
 
-corner_of_all : (stands : List Stand) → (least : Vector) × IsLeastCorner stands least
+corner_of_all : (stands : List SceneInstance) → (least : Vector) × IsLeastCorner stands least
 corner_of_all stands =
     let x = least_of (λ s. s.corner.x) stands in
     let y = least_of (λ s. s.corner.y) stands in
     let z = least_of (λ s. s.corner.z) stands in
     (record { x = x.0; y = y.0; z = z.0 }, record { x = x.1; y = y.1; z = z.1 })
 
-by_size : (bytes : List ℕ) (stands : List Stand) → HasStands bytes (Ok stands) → (least : Vector)
+by_size : (bytes : List ℕ) (stands : List SceneInstance) → HasInstances bytes (Ok stands) → (least : Vector)
     → IsLeastCorner stands least → IsTooLarge least stands ⊎ (IsTooLarge least stands → ⊥)
     → (found : Option SceneFault) × JudgesScene bytes found
 by_size bytes stands has least is_least (inl large) = (
@@ -390,7 +390,7 @@ by_size bytes stands has least is_least (inr small) = (
   },
 )
 
-of_stands : (bytes : List ℕ) (fault : SceneFault) → HasStands bytes (Err fault)
+of_stands : (bytes : List ℕ) (fault : SceneFault) → HasInstances bytes (Err fault)
     → ReadsScene bytes (Err fault)
 of_stands bytes (ShortNode at) has = inr has
 of_stands bytes (TwoNodes at) has = inr has
@@ -417,8 +417,8 @@ of_first bytes TooLarge first = absurd (no_first bytes first)
 of_first bytes Memory first = inl first
 
 by_walk : (bytes : List ℕ) (models : List Content) (nodes : List Node) → HasModels bytes models
-    → AreNodes bytes nodes → (says : Result (List Stand) SceneFault)
-    → stands_of models nodes ≡ says → (found : Option SceneFault) × JudgesScene bytes found
+    → AreNodes bytes nodes → (says : Result (List SceneInstance) SceneFault)
+    → instances_of models nodes ≡ says → (found : Option SceneFault) × JudgesScene bytes found
 by_walk bytes models nodes has are (Err fault) is = (
   Some fault,
   of_stands bytes fault (record {
@@ -453,7 +453,7 @@ judged bytes models has =
             read = record { frames = has.read.frames; fine = fine };
             ends = has.ends;
             are = refl;
-          }) (stands_of models (nodes_before bytes has.main.first has.children)) refl
+          }) (instances_of models (nodes_before bytes has.main.first has.children)) refl
       by_nodes (inr s) = (
         Some s.value,
         of_first bytes s.value (record {

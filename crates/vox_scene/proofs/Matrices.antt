@@ -1,5 +1,5 @@
--- What a file's nodes tell are matrices, and so each stand's turning is one; its model is one of
--- the file's, and there are at most 1,024 stands.
+-- What a file's nodes tell are matrices, and so each instance's rotation is one; its model is one of
+-- the file's, and there are at most 1,024 instances.
 use Rattle.std.proofs.Common.{◌≡◌, ◌≢◌, ℕ, zero, suc, ◌+◌, ◌<◌, ◌≤◌, ◌&&◌, Bool, true, false, List, [], ◌∷◌, ◌++◌, length, map, get_or, Option, Some, None, Result, Ok, Err, refl, sym, ap, ◌∙◌, arith, All}
 use Rattle.std.specs.Prelude.{nat_le, is_some, ◌||◌, ◌==◌, ◌%◌, ◌/◌, ◌*◌, drop, take, codes, option_to_list, if◌then◌else◌}
 use Rattle.std.specs.List.{flat_map}
@@ -18,18 +18,18 @@ use Rattle.vox_scene.specs.declared.faults.SceneFault.TheVariants.{NoModel, TooM
 use Rattle.vox_scene.specs.declared.nodes.Kind.{Kind}
 use Rattle.vox_scene.specs.declared.nodes.Kind.TheVariants.{Moves, Groups, Shows}
 use Rattle.vox_scene.specs.declared.nodes.Node.{Node}
-use Rattle.vox_scene.specs.declared.turnings.Axis.{Axis}
-use Rattle.vox_scene.specs.declared.turnings.Axis.TheVariants.{X, Y, Z}
-use Rattle.vox_scene.specs.declared.turnings.Turning.{Turning}
-use Rattle.vox_scene.specs.declared.turnings.Pose.{Pose}
+use Rattle.vox_scene.specs.declared.rotations.Axis.{Axis}
+use Rattle.vox_scene.specs.declared.rotations.Axis.TheVariants.{X, Y, Z}
+use Rattle.vox_scene.specs.declared.rotations.Rotation.{Rotation}
+use Rattle.vox_scene.specs.declared.rotations.Pose.{Pose}
 use Rattle.vox_scene.specs.Walks.{PlacedModel, Progress}
-use Rattle.vox_scene.specs.Turnings.{axis_of, remaining, rows_of, with_columns, turning_by, turning_with, turning_told, unturned, row_at, both_turnings, posed, at_rest}
-use Rattle.vox_scene.specs.Walking.{Visit, visits_below, visits, all_visits, shown, shown_by, placed_with, behind_one, behind_visit, visit_fault, walked, unless, is_over, room_fault, model_fault, turning_or, vector_or}
+use Rattle.vox_scene.specs.Rotations.{axis_of, remaining, rows_of, with_columns, rotation_of_bits, rotation_of_number, rotation_of_text, no_rotation, row_at, composed_rotation, posed, identity_pose}
+use Rattle.vox_scene.specs.Walking.{Visit, visits_below, visits, all_visits, shown, shown_by, placed_with, behind_one, behind_visit, visit_fault, walked, unless, is_over, room_fault, model_fault, rotation_or_identity, vector_or}
 use Rattle.vox_scene.specs.Sound.{IsSound}
-use Rattle.vox_scene.specs.Placing.{Stand, no_model, stand_of, alone, stands_by, stands_of}
+use Rattle.vox_scene.specs.Placing.{SceneInstance, no_model, instance_of, alone, instances_by, instances_of}
 use Rattle.vox_scene.specs.Painted.{IsMatrix}
 
--- ---- at most 1,024 stands
+-- ---- at most 1,024 instances
 
 few_placed : (placed : List PlacedModel) (pose : Pose) (model : Option ℕ)
     → length placed ≤ 1024 → (is_some model && nat_le 1024 (length placed)) ≡ false
@@ -76,16 +76,16 @@ few_walked models s (v ∷ more) t few is =
     few_walked models (behind_visit s v) more t
     (few_behind models s v.id v.kind v.is_deep v.pose few on.0) on.1
 
-few_by : (models : List Content) (answer : Result Progress SceneFault) (stands : List Stand)
+few_by : (models : List Content) (answer : Result Progress SceneFault) (stands : List SceneInstance)
     → ((t : Progress) → answer ≡ Ok t → length t.placed ≤ 1024)
-    → stands_by models answer ≡ Ok stands → length stands ≤ 1024
+    → instances_by models answer ≡ Ok stands → length stands ≤ 1024
 few_by models (Ok t) stands few is =
-    let e : map (stand_of models) t.placed ≡ stands = cc in
-    rw (← e, length-map t.placed (stand_of models)) (few t refl)
+    let e : map (instance_of models) t.placed ≡ stands = cc in
+    rw (← e, length-map t.placed (instance_of models)) (few t refl)
 few_by models (Err fault) stands few is = absurd (let no : ⊥ = cc in no)
 
-pub few_stands : (models : List Content) (nodes : List Node) (stands : List Stand)
-    → length models ≤ 1024 → stands_of models nodes ≡ Ok stands → length stands ≤ 1024
+pub few_stands : (models : List Content) (nodes : List Node) (stands : List SceneInstance)
+    → length models ≤ 1024 → instances_of models nodes ≡ Ok stands → length stands ≤ 1024
 few_stands models [] stands few is =
     let e : map alone models ≡ stands = cc in rw (← e, length-map models alone) few
 few_stands models (first ∷ more) stands few is =
@@ -98,15 +98,15 @@ few_stands models (first ∷ more) stands few is =
 
 -- ---- what a number or a text tells is a matrix
 
-unturned_is : IsMatrix unturned
-unturned_is = record {
+no_rotation_is : IsMatrix no_rotation
+no_rotation_is = record {
   first = λ e. (let no : ⊥ = cc in no);
   second = λ e. (let no : ⊥ = cc in no);
   third = λ e. (let no : ⊥ = cc in no);
 }
 
--- what holds of the turning, where there is one
-abbrev pub MatrixIfAny : Option Turning → Type 0
+-- what holds of the rotation, where there is one
+abbrev pub MatrixIfAny : Option Rotation → Type 0
 MatrixIfAny None = Unit {0}
 MatrixIfAny (Some r) = IsMatrix r
 
@@ -162,25 +162,25 @@ by_columns bits None b = tt
 by_columns bits (Some a) None = tt
 by_columns bits (Some a) (Some b) = distinct_rows bits a b
 
-if_any : (test : Bool) (a : Option Turning) → MatrixIfAny a → MatrixIfAny (if test then a else None)
+if_any : (test : Bool) (a : Option Rotation) → MatrixIfAny a → MatrixIfAny (if test then a else None)
 if_any true a is = is
 if_any false a is = tt
 
-with_number : (number : Option ℕ) → MatrixIfAny (turning_with number)
+with_number : (number : Option ℕ) → MatrixIfAny (rotation_of_number number)
 with_number None = tt
-with_number (Some bits) = if_any (nat_le bits 255) (turning_by bits)
+with_number (Some bits) = if_any (nat_le bits 255) (rotation_of_bits bits)
     (by_columns bits (axis_of (bits % 4)) (axis_of (bits / 4 % 4)))
 
-told_is : (text : Option (List ℕ)) → MatrixIfAny (turning_told text)
-told_is None = unturned_is
+told_is : (text : Option (List ℕ)) → MatrixIfAny (rotation_of_text text)
+told_is None = no_rotation_is
 told_is (Some text) = with_number (digits_in 3 text)
 
 -- ---- matrices one behind the other
 
-abbrev column_at : Axis → Turning → Axis
+abbrev column_at : Axis → Rotation → Axis
 column_at a r = (row_at a r).column
 
-apart_at : (a b : Axis) (r : Turning) → IsMatrix r → a ≢ b → column_at a r ≢ column_at b r
+apart_at : (a b : Axis) (r : Rotation) → IsMatrix r → a ≢ b → column_at a r ≢ column_at b r
 apart_at X X r is other same = other refl
 apart_at X Y r is other same = is.first same
 apart_at X Z r is other same = is.second same
@@ -191,22 +191,22 @@ apart_at Z X r is other same = is.second (sym same)
 apart_at Z Y r is other same = is.third (sym same)
 apart_at Z Z r is other same = other refl
 
-both_are : (outer inner : Turning) → IsMatrix outer → IsMatrix inner
-    → IsMatrix (both_turnings outer inner)
+both_are : (outer inner : Rotation) → IsMatrix outer → IsMatrix inner
+    → IsMatrix (composed_rotation outer inner)
 both_are outer inner o i = record {
   first = apart_at outer.x.column outer.y.column inner i o.first;
   second = apart_at outer.x.column outer.z.column inner i o.second;
   third = apart_at outer.y.column outer.z.column inner i o.third;
 }
 
-or_unturned : (turning : Option Turning) → MatrixIfAny turning → IsMatrix (turning_or turning)
-or_unturned None is = unturned_is
-or_unturned (Some r) is = is
+or_no_rotation : (axis_map : Option Rotation) → MatrixIfAny axis_map → IsMatrix (rotation_or_identity axis_map)
+or_no_rotation None is = no_rotation_is
+or_no_rotation (Some r) is = is
 
 -- ---- nodes of a file
 
 abbrev pub TurnsByMatrix : Kind → Type 0
-TurnsByMatrix (Moves child turning shift) = MatrixIfAny turning
+TurnsByMatrix (Moves child axis_map shift) = MatrixIfAny axis_map
 TurnsByMatrix (Groups children) = Unit {0}
 TurnsByMatrix (Shows model) = Unit {0}
 
@@ -308,7 +308,7 @@ all_turn bytes first (suc i) =
 
 abbrev pub AllPosed : List Visit → Type 0
 AllPosed [] = Unit {0}
-AllPosed (v ∷ more) = IsMatrix v.pose.turning × AllPosed more
+AllPosed (v ∷ more) = IsMatrix v.pose.axis_map × AllPosed more
 
 posed_both : (a b : List Visit) → AllPosed a → AllPosed b → AllPosed (a ++ b)
 posed_both [] b of_a of_b = of_b
@@ -322,19 +322,19 @@ posed_children of_child (id ∷ more) each =
     posed_both (of_child id) (flat_map of_child more) (each id) (posed_children of_child more each)
 
 posed_below : (kind : Option Kind) (pose : Pose) (of_child : Pose → ℕ → List Visit) → KindIfAny kind
-    → IsMatrix pose.turning
-    → ((inner : Pose) (id : ℕ) → IsMatrix inner.turning → AllPosed (of_child inner id))
+    → IsMatrix pose.axis_map
+    → ((inner : Pose) (id : ℕ) → IsMatrix inner.axis_map → AllPosed (of_child inner id))
     → AllPosed (visits_below kind pose of_child)
 posed_below None pose of_child is matrix each = tt
-posed_below (Some (Moves child turning shift)) pose of_child is matrix each =
-    each (posed pose (turning_or turning) (vector_or shift)) child
-    (both_are pose.turning (turning_or turning) matrix (or_unturned turning is))
+posed_below (Some (Moves child axis_map shift)) pose of_child is matrix each =
+    each (posed pose (rotation_or_identity axis_map) (vector_or shift)) child
+    (both_are pose.axis_map (rotation_or_identity axis_map) matrix (or_no_rotation axis_map is))
 posed_below (Some (Groups children)) pose of_child is matrix each =
     posed_children (of_child pose) children (λ id. each pose id matrix)
 posed_below (Some (Shows model)) pose of_child is matrix each = tt
 
 all_posed : (nodes : List Node) (room : ℕ) (pose : Pose) (id : ℕ) → AllTurn nodes
-    → IsMatrix pose.turning
+    → IsMatrix pose.axis_map
     → AllPosed (visits nodes room pose id)
 unfolding visits
 all_posed nodes zero pose id turn matrix = (matrix, tt)
@@ -348,7 +348,7 @@ all_posed nodes (suc room) pose id turn matrix = (
 -- a placed model is one of the file's, and stands by a matrix
 pub record IsSoundly (models : ℕ) (p : PlacedModel) : Type 0 where
   pub model : p.model < models
-  pub matrix : IsMatrix p.pose.turning
+  pub matrix : IsMatrix p.pose.axis_map
 
 model_there : (models id model : ℕ) → model_fault models id (Some model) ≡ None → model < models
 model_there models id model fine = by (nat_le models model) refl where
@@ -366,7 +366,7 @@ within_room models s id model fine =
     (not_over models s id model fine)) ∙ fine
 
 soundly_placed : (models id : ℕ) (placed : List PlacedModel) (pose : Pose) (model : Option ℕ)
-    → model_fault models id model ≡ None → IsMatrix pose.turning → All (IsSoundly models) placed
+    → model_fault models id model ≡ None → IsMatrix pose.axis_map → All (IsSoundly models) placed
     → All (IsSoundly models) (placed ++ placed_with pose model)
 soundly_placed models id placed pose None fine matrix all =
     All-append (IsSoundly models) placed [] all (All-nil (IsSoundly models))
@@ -377,7 +377,7 @@ soundly_placed models id placed pose (Some model) fine matrix all =
 soundly_behind : (models : ℕ) (s : Progress) (id : ℕ) (kind : Option Kind) (is_deep : Bool)
     (pose : Pose)
     → visit_fault models s (record { id = id; kind = kind; is_deep = is_deep; pose = pose }) ≡ None
-    → IsMatrix pose.turning → All (IsSoundly models) s.placed
+    → IsMatrix pose.axis_map → All (IsSoundly models) s.placed
     → All (IsSoundly models) (behind_one s pose (shown_by kind)).placed
 soundly_behind models s id None is_deep pose fine matrix all = absurd (let no : ⊥ = cc in no)
 soundly_behind models s id (Some kind) true pose fine matrix all = absurd (let no : ⊥ = cc in no)
@@ -394,39 +394,39 @@ soundly_walked models s (v ∷ more) t poses all is =
     soundly_walked models (behind_visit s v) more t poses.1
     (soundly_behind models s v.id v.kind v.is_deep v.pose on.0 poses.0 all) on.1
 
--- ---- stands
+-- ---- instances
 
 stand_is_sound : (models : List Content) (p : PlacedModel) → All IsModel models
-    → IsSoundly (length models) p → IsSound (stand_of models p)
+    → IsSoundly (length models) p → IsSound (instance_of models p)
 stand_is_sound models p all is =
     record { model = all p.model no_model is.model; matrix = is.matrix }
 
 all_stands_sound : (models : List Content) (placed : List PlacedModel) → All IsModel models
-    → All (IsSoundly (length models)) placed → All IsSound (map (stand_of models) placed)
+    → All (IsSoundly (length models)) placed → All IsSound (map (instance_of models) placed)
 all_stands_sound models placed all is =
-    All-map IsSound (stand_of models) placed
+    All-map IsSound (instance_of models) placed
     (λ k d lt. stand_is_sound models (get_or placed k d) all (is k d lt))
 
-sound_by : (models : List Content) (answer : Result Progress SceneFault) (stands : List Stand)
+sound_by : (models : List Content) (answer : Result Progress SceneFault) (stands : List SceneInstance)
     → All IsModel models
     → ((t : Progress) → answer ≡ Ok t → All (IsSoundly (length models)) t.placed)
-    → stands_by models answer ≡ Ok stands → All IsSound stands
+    → instances_by models answer ≡ Ok stands → All IsSound stands
 sound_by models (Ok t) stands all sound is =
-    let e : map (stand_of models) t.placed ≡ stands = cc in
+    let e : map (instance_of models) t.placed ≡ stands = cc in
     rw (← e) (all_stands_sound models t.placed all (sound t refl))
 sound_by models (Err fault) stands all sound is = absurd (let no : ⊥ = cc in no)
 
-pub sound_stands : (models : List Content) (nodes : List Node) (stands : List Stand)
-    → All IsModel models → AllTurn nodes → stands_of models nodes ≡ Ok stands → All IsSound stands
+pub sound_stands : (models : List Content) (nodes : List Node) (stands : List SceneInstance)
+    → All IsModel models → AllTurn nodes → instances_of models nodes ≡ Ok stands → All IsSound stands
 sound_stands models [] stands all turn is =
     let e : map alone models ≡ stands = cc in
     rw (← e) (All-map IsSound alone models
-    (λ k d lt. record { model = all k d lt; matrix = unturned_is }))
+    (λ k d lt. record { model = all k d lt; matrix = no_rotation_is }))
 sound_stands models (first ∷ more) stands all turn is =
     sound_by models
     (walked (length models) (record { visited = 0; placed = [] }) (all_visits (first ∷ more)))
     stands all
     (λ t walks. soundly_walked (length models) (record { visited = 0; placed = [] })
     (all_visits (first ∷ more)) t
-    (all_posed (first ∷ more) 64 at_rest 0 turn unturned_is)
+    (all_posed (first ∷ more) 64 identity_pose 0 turn no_rotation_is)
     (All-nil (IsSoundly (length models))) walks) is

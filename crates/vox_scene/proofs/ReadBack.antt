@@ -13,8 +13,8 @@ use Rattle.vw_cell.specs.declared.cells.Cell.{Cell}
 use Rattle.vox_chunk.specs.declared.faults.VoxFault.{VoxFault}
 use Rattle.vox_chunk.specs.Frames.{Bounds, number_at, id_at, content_length, children_length, content_at, end_of, header_of, place_of, FrameFits}
 use Rattle.vox_read.specs.declared.voxels.Voxel.{Voxel}
-use Rattle.vox_read.specs.Contents.{Content, IsModelExtent, IsSize, IsModel, StandsInside}
-use Rattle.vox_read.specs.Fields.{is_extent, size_in, size_fault, voxels_of, voxels_in, stands_in, voxels_fault, holds_its_voxels}
+use Rattle.vox_read.specs.Contents.{Content, IsModelExtent, IsSize, IsModel, IsInsideModel}
+use Rattle.vox_read.specs.Fields.{is_extent, size_in, size_fault, voxels_of, voxels_in, is_voxel_in, voxels_fault, holds_its_voxels}
 use Rattle.vox_read.specs.Children.{waiting_at, models_in, models_before, fields_fault, child_fault}
 use Rattle.vox_read.specs.Files.{AreRead}
 use Rattle.vox_write.specs.Written.{number_bytes, size_bytes, voxel_bytes, model_chunks, chunks_length, models_file}
@@ -54,16 +54,16 @@ size_fine place size is =
       extent_is size.z is.z,
     ) refl
 
-all_inside : (size : Cell) (voxels : List Voxel) → All (StandsInside size) voxels
-    → list_all (stands_in size) voxels ≡ true
+all_inside : (size : Cell) (voxels : List Voxel) → All (IsInsideModel size) voxels
+    → list_all (is_voxel_in size) voxels ≡ true
 all_inside size [] all = refl
 all_inside size (v ∷ more) all =
-    let v_in = All-head (StandsInside size) v more all in
+    let v_in = All-head (IsInsideModel size) v more all in
     rw (
       lt-ltb v.x size.x v_in.x,
       lt-ltb v.y size.y v_in.y,
       lt-ltb v.z size.z v_in.z,
-      all_inside size more (All-tail (StandsInside size) v more all),
+      all_inside size more (All-tail (IsInsideModel size) v more all),
     ) refl
 
 groups_long : (voxels : List Voxel) → length (flat_map voxel_bytes voxels) ≡ 4 * length voxels
@@ -90,7 +90,7 @@ voxels_read voxels few =
     rw (number, all) (voxels_are voxels)
 
 voxels_fine : (place : ℕ) (size : Cell) (voxels : List Voxel) → length voxels ≤ 2 ^ 26
-    → All (StandsInside size) voxels → voxels_fault place size (spelled voxels) ≡ None
+    → All (IsInsideModel size) voxels → voxels_fault place size (spelled voxels) ≡ None
 voxels_fine place size voxels few inside =
     let groups : List ℕ = flat_map voxel_bytes voxels in
     let long = groups_long voxels in
@@ -271,7 +271,7 @@ appended : (xs ys zs ws : List Content) → xs ≡ zs → ys ≡ ws → xs ++ ys
 appended xs ys zs ws a b = rw (a, b) refl
 
 xyzi_fine : (w : Option Cell) (before : List Content) (p : ℕ) (m : Content) → w ≡ Some m.size
-    → length before < 1024 → length m.voxels ≤ 2 ^ 26 → All (StandsInside m.size) m.voxels
+    → length before < 1024 → length m.voxels ≤ 2 ^ 26 → All (IsInsideModel m.size) m.voxels
     → fields_fault w (length before) (codes "XYZI") (spelled m.voxels) p ≡ None
 xyzi_fine w before p m waits room few all =
     let some : nat_le 1024 (length before) ≡ false = lt-leb _ _ room in

@@ -7,14 +7,14 @@ use Rattle.vox_scene.specs.declared.faults.SceneFault.TheVariants.{ShortNode, Tw
 use Rattle.vox_scene.specs.declared.nodes.Kind.{Kind}
 use Rattle.vox_scene.specs.declared.nodes.Kind.TheVariants.{Moves, Groups, Shows}
 use Rattle.vox_scene.specs.declared.nodes.Node.{Node}
-use Rattle.vox_scene.specs.declared.turnings.Turning.{Turning}
-use Rattle.vox_scene.specs.declared.turnings.Vector.{Vector}
-use Rattle.vox_scene.specs.declared.turnings.Pose.{Pose}
-use Rattle.vox_scene.specs.Turnings.{posed}
+use Rattle.vox_scene.specs.declared.rotations.Rotation.{Rotation}
+use Rattle.vox_scene.specs.declared.rotations.Vector.{Vector}
+use Rattle.vox_scene.specs.declared.rotations.Pose.{Pose}
+use Rattle.vox_scene.specs.Rotations.{posed}
 use Rattle.vox_scene.specs.Nodes.{kind_with}
 use Rattle.vox_scene.specs.Numbering.{numbers_of}
 use Rattle.vox_scene.specs.Walks.{Progress}
-use Rattle.vox_scene.specs.Walking.{Visit, visits_below, visits, shown, room_fault, visit_fault, behind_one, behind_visit, unless, walked, AnswersWalk, Enters, turning_or, vector_or}
+use Rattle.vox_scene.specs.Walking.{Visit, visits_below, visits, shown, room_fault, visit_fault, behind_one, behind_visit, unless, walked, AnswersWalk, Enters, rotation_or_identity, vector_or}
 
 -- ---- no visit, and one
 
@@ -281,11 +281,11 @@ module _ (nodes : List Node) (models n k : ℕ) (s new : Progress) (pose : Pose)
       (λ f. walked models new
       (visits_below (Some f) pose (λ inner child. visits nodes k inner child))) is
 
-  pub mover_entered : (child : ℕ) (turning : Option Turning) (shift : Option Vector) (inner : Pose)
-      → found ≡ Moves child turning shift
-      → inner ≡ posed pose (turning_or turning) (vector_or shift)
+  pub mover_entered : (child : ℕ) (axis_map : Option Rotation) (shift : Option Vector) (inner : Pose)
+      → found ≡ Moves child axis_map shift
+      → inner ≡ posed pose (rotation_or_identity axis_map) (vector_or shift)
       → walked models s (visits nodes n pose id) ≡ walked models new (visits nodes k inner child)
-  mover_entered child turning shift inner is posed_is = onward (Moves child turning shift) is
+  mover_entered child axis_map shift inner is posed_is = onward (Moves child axis_map shift) is
       ∙ ap (λ p. walked models new (visits nodes k p child)) (sym posed_is)
 
   pub group_entered : (children : List ℕ) (bytes : List ℕ) → found ≡ Groups children

@@ -1,8 +1,8 @@
 -- How far a pose can have come.
 use Rattle.std.proofs.Common.{ℕ, ◌≤◌, arith}
 use Rattle.std.proofs.lemmas.Int.{ints}
-use Rattle.vox_scene.specs.declared.turnings.Vector.{Vector}
-use Rattle.vox_scene.specs.Turnings.{IsNearOrigin}
+use Rattle.vox_scene.specs.declared.rotations.Vector.{Vector}
+use Rattle.vox_scene.specs.Rotations.{IsNearOrigin}
 
 pub within_more : (n m : ℕ) (v : Vector) → n ≤ m → IsNearOrigin n v → IsNearOrigin m v
 within_more n m v le w = record {

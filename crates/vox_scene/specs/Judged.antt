@@ -3,14 +3,14 @@ use Rattle.std.specs.Prelude.{◌≡◌, ℕ, List, Option, Some, None, Ok, Err}
 use Rattle.vox_read.specs.Contents.{Content}
 use Rattle.vox_read.specs.Files.{HasModels}
 use Rattle.vox_scene.specs.declared.faults.SceneFault.{SceneFault}
-use Rattle.vox_scene.specs.declared.turnings.Vector.{Vector}
-use Rattle.vox_scene.specs.Placing.{Stand, IsLeastCorner, IsTooLarge}
-use Rattle.vox_scene.specs.Scenes.{HasStands, ReadsScene}
+use Rattle.vox_scene.specs.declared.rotations.Vector.{Vector}
+use Rattle.vox_scene.specs.Placing.{SceneInstance, IsLeastCorner, IsTooLarge}
+use Rattle.vox_scene.specs.Scenes.{HasInstances, ReadsScene}
 
--- the stands of the file, told from their least corner, are not too large
+-- the instances of the file, told from their least corner, are not too large
 pub record IsPlaceable (bytes : List ℕ) : Type 0 where
-  pub stands : List Stand
-  pub has : HasStands bytes (Ok stands)
+  pub stands : List SceneInstance
+  pub has : HasInstances bytes (Ok stands)
   pub least : Vector
   pub is_least : IsLeastCorner stands least
   pub small : IsTooLarge least stands → ⊥

@@ -10,7 +10,7 @@ use Rattle.vox_scene.specs.declared.nodes.Kind.TheVariants.{Moves, Groups, Shows
 use Rattle.vox_scene.specs.declared.nodes.Node.{Node}
 use Rattle.vox_scene.specs.Dicts.{Pair, dict_in, pairs_of, value_of}
 use Rattle.vox_scene.specs.Numbering.{numbers_of}
-use Rattle.vox_scene.specs.Turnings.{turning_told, shift_told}
+use Rattle.vox_scene.specs.Rotations.{rotation_of_text, shift_of_text}
 
 abbrev pub is_mover : List ℕ → Bool
 is_mover id = bytes_eq id (codes "nTRN")
@@ -44,8 +44,8 @@ abbrev pub first_frame : ℕ → List ℕ → List Pair
 first_frame frames bytes = if frames == 0 then [] else pairs_of (dict_in bytes)
 
 abbrev pub mover_of : ℕ → List Pair → Kind
-mover_of child frame = Moves child (turning_told (value_of (codes "_r") frame))
-    (shift_told (value_of (codes "_t") frame))
+mover_of child frame = Moves child (rotation_of_text (value_of (codes "_r") frame))
+    (shift_of_text (value_of (codes "_t") frame))
 
 abbrev pub mover_in : List ℕ → Option Kind
 mover_in bytes = if nat_le 16 (length bytes)
@@ -97,8 +97,8 @@ node_in id content = if nat_le 4 (length content)
 
 abbrev pub kind_fault : ℕ → Kind → Option SceneFault
 kind_fault place (Moves child None shift) = Some (BadRotation place)
-kind_fault place (Moves child (Some turning) None) = Some (BadTranslation place)
-kind_fault place (Moves child (Some turning) (Some shift)) = None
+kind_fault place (Moves child (Some axis_map) None) = Some (BadTranslation place)
+kind_fault place (Moves child (Some axis_map) (Some shift)) = None
 kind_fault place (Groups children) = None
 kind_fault place (Shows model) = None
 

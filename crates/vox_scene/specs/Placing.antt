@@ -3,18 +3,18 @@ use Rattle.std.specs.Prelude.{◌≡◌, ℕ, ◌+◌, ◌-◌, ◌*◌, ◌/◌
 use Rattle.std.specs.List.{AllZip, Contains}
 use Rattle.vw_cell.specs.declared.cells.Cell.{Cell}
 use Rattle.vw_cell.specs.Counts.{IsBelow}
-use Rattle.vox_read.specs.Contents.{Content, colour_at, cells_in_size, StandsInside}
+use Rattle.vox_read.specs.Contents.{Content, colour_at, cells_in_size, IsInsideModel}
 use Rattle.vox_read.specs.Places.{voxel_place, index_of}
 use Rattle.vox_scene.specs.declared.faults.SceneFault.{SceneFault}
 use Rattle.vox_scene.specs.declared.faults.SceneFault.TheVariants.{Memory}
 use Rattle.vox_scene.specs.declared.nodes.Node.{Node}
-use Rattle.vox_scene.specs.declared.turnings.Axis.{Axis}
-use Rattle.vox_scene.specs.declared.turnings.Axis.TheVariants.{X, Y, Z}
-use Rattle.vox_scene.specs.declared.turnings.Row.{Row}
-use Rattle.vox_scene.specs.declared.turnings.Turning.{Turning}
-use Rattle.vox_scene.specs.declared.turnings.Vector.{Vector}
-use Rattle.vox_scene.specs.declared.turnings.Pose.{Pose}
-use Rattle.vox_scene.specs.Turnings.{unturned, unmoved}
+use Rattle.vox_scene.specs.declared.rotations.Axis.{Axis}
+use Rattle.vox_scene.specs.declared.rotations.Axis.TheVariants.{X, Y, Z}
+use Rattle.vox_scene.specs.declared.rotations.Row.{Row}
+use Rattle.vox_scene.specs.declared.rotations.Rotation.{Rotation}
+use Rattle.vox_scene.specs.declared.rotations.Vector.{Vector}
+use Rattle.vox_scene.specs.declared.rotations.Pose.{Pose}
+use Rattle.vox_scene.specs.Rotations.{no_rotation, zero_shift}
 use Rattle.vox_scene.specs.Walks.{PlacedModel, Progress}
 use Rattle.vox_scene.specs.Walking.{all_visits, walked}
 
@@ -26,33 +26,33 @@ extent_at Y c = c.y
 extent_at Z c = c.z
 
 -- the size of a turned model
-abbrev pub turned_size : Turning → Cell → Cell
-turned_size r size = record {
+abbrev pub rotated_size : Rotation → Cell → Cell
+rotated_size r size = record {
   x = extent_at r.x.column size;
   y = extent_at r.y.column size;
   z = extent_at r.z.column size;
 }
 
 -- where a place goes on one axis: it stays, or is told from the other end
-abbrev pub turned_to : Row → Cell → Cell → ℕ
-turned_to row size p = if row.is_negative
+abbrev pub rotated_axis : Row → Cell → Cell → ℕ
+rotated_axis row size p = if row.is_negative
     then extent_at row.column size - 1 - extent_at row.column p else extent_at row.column p
 
 -- where a cell of a model goes
-abbrev pub turned_place : Turning → Cell → Cell → Cell
-turned_place r size p = record {
-  x = turned_to r.x size p;
-  y = turned_to r.y size p;
-  z = turned_to r.z size p;
+abbrev pub rotated_cell : Rotation → Cell → Cell → Cell
+rotated_cell r size p = record {
+  x = rotated_axis r.x size p;
+  y = rotated_axis r.y size p;
+  z = rotated_axis r.z size p;
 }
 
 -- the turned model has each cell of the model with its colour, and no other, by rising z, then y,
 -- then x
-pub record IsTurned (m : Content) (r : Turning) (turned : Content) : Type 0 where
-  pub size : turned.size ≡ turned_size r m.size
+pub record IsRotated (m : Content) (r : Rotation) (turned : Content) : Type 0 where
+  pub size : turned.size ≡ rotated_size r m.size
   pub cells : (p : Cell) → IsBelow m.size p
-      → colour_at turned.voxels (turned_place r m.size p) ≡ colour_at m.voxels p
-  pub inside : All (StandsInside turned.size) turned.voxels
+      → colour_at turned.voxels (rotated_cell r m.size p) ≡ colour_at m.voxels p
+  pub inside : All (IsInsideModel turned.size) turned.voxels
   pub coloured : All (λ v. 1 ≤ v.colour) turned.voxels
   pub ordered : AllPairs (λ v w. index_of turned.size (voxel_place v)
       < index_of turned.size (voxel_place w)) turned.voxels
@@ -60,56 +60,58 @@ pub record IsTurned (m : Content) (r : Turning) (turned : Content) : Type 0 wher
 -- ---- what stands where
 
 -- a model, how it is turned, and where its least corner stands
-pub record Stand : Type 0 where
+pub record SceneInstance : Type 0 where
   pub model : Content
-  pub turning : Turning
+  pub axis_map : Rotation
   pub corner : Vector
 
 abbrev pub no_model : Content
 no_model = record { size = record { x = 0; y = 0; z = 0 }; voxels = [] }
 
 -- a turned model's middle is where its pose leads, rounded down
-abbrev pub stand_corner : Vector → Cell → Vector
-stand_corner at size = record {
+abbrev pub instance_corner : Vector → Cell → Vector
+instance_corner at size = record {
   x = at.x -ℤ pos (size.x / 2);
   y = at.y -ℤ pos (size.y / 2);
   z = at.z -ℤ pos (size.z / 2);
 }
 
-abbrev pub stand_with : Content → Pose → Stand
-stand_with m pose = record {
+abbrev pub instance_with : Content → Pose → SceneInstance
+instance_with m pose = record {
   model = m;
-  turning = pose.turning;
-  corner = stand_corner pose.at (turned_size pose.turning m.size);
+  axis_map = pose.axis_map;
+  corner = instance_corner pose.at (rotated_size pose.axis_map m.size);
 }
 
-abbrev pub stand_of : List Content → PlacedModel → Stand
-stand_of models placed = stand_with (slice_index_or models placed.model no_model) placed.pose
+abbrev pub instance_of : List Content → PlacedModel → SceneInstance
+instance_of models placed = instance_with (slice_index_or models placed.model no_model) placed.pose
 
 -- without a node each model stands at the corner, unturned
-abbrev pub alone : Content → Stand
-alone m = record { model = m; turning = unturned; corner = unmoved }
+abbrev pub alone : Content → SceneInstance
+alone m = record { model = m; axis_map = no_rotation; corner = zero_shift }
 
-abbrev pub stands_by : List Content → Result Progress SceneFault → Result (List Stand) SceneFault
-stands_by models (Ok progress) = Ok (map (stand_of models) progress.placed)
-stands_by models (Err fault) = Err fault
+abbrev pub instances_by : List Content → Result Progress SceneFault
+    → Result (List SceneInstance) SceneFault
+instances_by models (Ok progress) = Ok (map (instance_of models) progress.placed)
+instances_by models (Err fault) = Err fault
 
-abbrev pub stands_of : List Content → List Node → Result (List Stand) SceneFault
-stands_of models [] = Ok (map alone models)
-stands_of models (first ∷ more) =
-    stands_by models
+abbrev pub instances_of : List Content → List Node → Result (List SceneInstance) SceneFault
+instances_of models [] = Ok (map alone models)
+instances_of models (first ∷ more) =
+    instances_by models
     (walked (length models) (record { visited = 0; placed = [] }) (all_visits (first ∷ more)))
 
--- these are the turned models of the stands
-abbrev pub AreTurned : List Stand → List Content → Type 0
-AreTurned stands models = AllZip (λ s m. IsTurned s.model s.turning m) stands models
+-- these are the turned models of the instances
+abbrev pub AreRotated : List SceneInstance → List Content → Type 0
+AreRotated stands models = AllZip (λ s m. IsRotated s.model s.axis_map m) stands models
 
 -- ---- they are moved together into the least world
 
 -- the least of some entries: all are at least it, and one is it
-pub record IsLeast (entry : Stand → ℤ) (stands : List Stand) (least : ℤ) : Type 0 where
+pub record IsLeast (entry : SceneInstance → ℤ) (stands : List SceneInstance)
+    (least : ℤ) : Type 0 where
   pub below : All (λ s. least ≤ℤ entry s) stands
-  pub met : (stands ≡ []) ⊎ ((s : Stand) × Contains stands s × (entry s ≡ least))
+  pub met : (stands ≡ []) ⊎ ((s : SceneInstance) × Contains stands s × (entry s ≡ least))
 
 -- the lesser one of the least of some entries, where there is any, and one more
 abbrev pub IsLesser : Bool → ℤ → ℤ → ℤ → Type 0
@@ -117,28 +119,28 @@ IsLesser false least entry now = now ≡ entry
 IsLesser true least entry now =
     ((now ≡ entry) × (entry ≤ℤ least)) ⊎ ((now ≡ least) × (least ≤ℤ entry))
 
-pub record IsLeastCorner (stands : List Stand) (least : Vector) : Type 0 where
+pub record IsLeastCorner (stands : List SceneInstance) (least : Vector) : Type 0 where
   pub x : IsLeast (λ s. s.corner.x) stands least.x
   pub y : IsLeast (λ s. s.corner.y) stands least.y
   pub z : IsLeast (λ s. s.corner.z) stands least.z
 
--- the place is the stand's corner, told from the least one
-pub record IsPlaced (least : Vector) (s : Stand) (p : Cell) : Type 0 where
+-- the place is the instance's corner, told from the least one
+pub record IsPlaced (least : Vector) (s : SceneInstance) (p : Cell) : Type 0 where
   pub x : least.x +ℤ pos p.x ≡ s.corner.x
   pub y : least.y +ℤ pos p.y ≡ s.corner.y
   pub z : least.z +ℤ pos p.z ≡ s.corner.z
 
--- the stand ends in the world of this side, whose corner is the least one
-pub record EndsWithin (least : Vector) (side : ℕ) (s : Stand) : Type 0 where
-  pub x : (s.corner.x +ℤ pos (turned_size s.turning s.model.size).x) ≤ℤ (least.x +ℤ pos side)
-  pub y : (s.corner.y +ℤ pos (turned_size s.turning s.model.size).y) ≤ℤ (least.y +ℤ pos side)
-  pub z : (s.corner.z +ℤ pos (turned_size s.turning s.model.size).z) ≤ℤ (least.z +ℤ pos side)
+-- the instance ends in the world of this side, whose corner is the least one
+pub record EndsWithin (least : Vector) (side : ℕ) (s : SceneInstance) : Type 0 where
+  pub x : (s.corner.x +ℤ pos (rotated_size s.axis_map s.model.size).x) ≤ℤ (least.x +ℤ pos side)
+  pub y : (s.corner.y +ℤ pos (rotated_size s.axis_map s.model.size).y) ≤ℤ (least.y +ℤ pos side)
+  pub z : (s.corner.z +ℤ pos (rotated_size s.axis_map s.model.size).z) ≤ℤ (least.z +ℤ pos side)
 
-abbrev pub AllEndWithin : Vector → List Stand → ℕ → Type 0
+abbrev pub AllEndWithin : Vector → List SceneInstance → ℕ → Type 0
 AllEndWithin least stands side = All (EndsWithin least side) stands
 
 -- the least side, told by its exponent
-pub record IsLeastSide (least : Vector) (stands : List Stand) (exponent : ℕ) : Type 0 where
+pub record IsLeastSide (least : Vector) (stands : List SceneInstance) (exponent : ℕ) : Type 0 where
   pub low : 2 ≤ exponent
   pub high : exponent ≤ 12
   pub holds : AllEndWithin least stands (2 ^ exponent)
@@ -146,35 +148,35 @@ pub record IsLeastSide (least : Vector) (stands : List Stand) (exponent : ℕ) :
 
 -- ---- how long the file of the turned models is
 
-abbrev pub file_length : List Stand → ℕ
+abbrev pub file_length : List SceneInstance → ℕ
 file_length stands = 20 + sum_by (λ s. 40 + 4 * cells_in_size s.model) stands
 
--- a stand ends past 4,096, or the file is longer than 2^28
-abbrev pub IsTooLarge : Vector → List Stand → Type 0
+-- an instance ends past 4,096, or the file is longer than 2^28
+abbrev pub IsTooLarge : Vector → List SceneInstance → Type 0
 IsTooLarge least stands =
     (AllEndWithin least stands 4096 → ⊥) ⊎ (268435456 < file_length stands)
 
--- ---- a stand whose model is told by its number in a list
+-- ---- an instance whose model is told by its number in a list
 
-pub record StandingModel : Type 0 where
+pub record IndexedInstance : Type 0 where
   pub model : ℕ
-  pub turning : Turning
+  pub axis_map : Rotation
   pub corner : Vector
 
-abbrev pub stand_at : List Content → StandingModel → Stand
-stand_at models s = record {
+abbrev pub instance_at : List Content → IndexedInstance → SceneInstance
+instance_at models s = record {
   model = slice_index_or models s.model no_model;
-  turning = s.turning;
+  axis_map = s.axis_map;
   corner = s.corner;
 }
 
 -- the same length, by the number of cells of each model
-abbrev pub length_by : List ℕ → List StandingModel → ℕ
-length_by counts standing = 20 + sum_by (λ s. 40 + 4 * slice_index_or counts s.model 0) standing
+abbrev pub length_by : List ℕ → List IndexedInstance → ℕ
+length_by counts instanced = 20 + sum_by (λ s. 40 + 4 * slice_index_or counts s.model 0) instanced
 
 -- what is answered where this has to be: want of memory says nothing
-abbrev pub TellsStands : List Content → Result (List Stand) SceneFault
-    → Result (List StandingModel) SceneFault → Type 0
-TellsStands models wanted (Ok standing) = wanted ≡ Ok (map (stand_at models) standing)
-TellsStands models wanted (Err Memory) = Unit {0}
-TellsStands models wanted (Err fault) = wanted ≡ Err fault
+abbrev pub GivesInstances : List Content → Result (List SceneInstance) SceneFault
+    → Result (List IndexedInstance) SceneFault → Type 0
+GivesInstances models wanted (Ok instanced) = wanted ≡ Ok (map (instance_at models) instanced)
+GivesInstances models wanted (Err Memory) = Unit {0}
+GivesInstances models wanted (Err fault) = wanted ≡ Err fault

@@ -7,55 +7,56 @@ use Rattle.vox_read.specs.Files.{HasModels}
 use Rattle.vox_scene.specs.declared.faults.SceneFault.{SceneFault}
 use Rattle.vox_scene.specs.declared.faults.SceneFault.TheVariants.{TooLarge, Memory}
 use Rattle.vox_scene.specs.declared.nodes.Node.{Node}
-use Rattle.vox_scene.specs.declared.turnings.Vector.{Vector}
+use Rattle.vox_scene.specs.declared.rotations.Vector.{Vector}
 use Rattle.vox_scene.specs.Reading.{AreNodes, IsFirstNodeFault}
-use Rattle.vox_scene.specs.Placing.{Stand, AreTurned, IsPlaced, IsLeastCorner, IsLeastSide, IsTooLarge, stands_of}
+use Rattle.vox_scene.specs.Placing.{SceneInstance, AreRotated, IsPlaced, IsLeastCorner, IsLeastSide, IsTooLarge, instances_of}
 
 -- the exponent of the side, the turned models, and where each stands
-pub record SceneSeen : Type 0 where
+pub record SceneState : Type 0 where
   pub side : ℕ
   pub models : List Content
   pub places : List Cell
 
 -- the file's models and nodes, and what stands where
-pub record HasStands (bytes : List ℕ) (says : Result (List Stand) SceneFault) : Type 0 where
+pub record HasInstances (bytes : List ℕ)
+    (says : Result (List SceneInstance) SceneFault) : Type 0 where
   pub models : List Content
   pub has : HasModels bytes models
   pub nodes : List Node
   pub are : AreNodes bytes nodes
-  pub walked : stands_of models nodes ≡ says
+  pub walked : instances_of models nodes ≡ says
 
--- these stands make this scene
-pub record IsSceneOf (stands : List Stand) (scene : SceneSeen) : Type 0 where
+-- these instances make this scene
+pub record IsSceneOf (stands : List SceneInstance) (scene : SceneState) : Type 0 where
   pub least : Vector
   pub is_least : IsLeastCorner stands least
   pub small : IsTooLarge least stands → ⊥
   pub side : IsLeastSide least stands scene.side
-  pub turned : AreTurned stands scene.models
+  pub turned : AreRotated stands scene.models
   pub placed : AllZip (IsPlaced least) stands scene.places
 
-pub record HasScene (bytes : List ℕ) (scene : SceneSeen) : Type 0 where
-  pub stands : List Stand
-  pub has : HasStands bytes (Ok stands)
+pub record HasScene (bytes : List ℕ) (scene : SceneState) : Type 0 where
+  pub stands : List SceneInstance
+  pub has : HasInstances bytes (Ok stands)
   pub is : IsSceneOf stands scene
 
--- told from their least corner, these stands are too large
-pub record HasLarge (stands : List Stand) : Type 0 where
+-- told from their least corner, these instances are too large
+pub record HasLarge (stands : List SceneInstance) : Type 0 where
   pub least : Vector
   pub is_least : IsLeastCorner stands least
   pub large : IsTooLarge least stands
 
 pub record HasTooLarge (bytes : List ℕ) : Type 0 where
-  pub stands : List Stand
-  pub has : HasStands bytes (Ok stands)
+  pub stands : List SceneInstance
+  pub has : HasInstances bytes (Ok stands)
   pub is : HasLarge stands
 
 -- what the file says: its scene; or the first node that breaks a rule; or, without one, the first
 -- visit that does; or, without one, that the scene is too large
-abbrev pub ReadsScene : List ℕ → Result SceneSeen SceneFault → Type 0
+abbrev pub ReadsScene : List ℕ → Result SceneState SceneFault → Type 0
 ReadsScene bytes (Ok scene) = HasScene bytes scene
 ReadsScene bytes (Err TooLarge) = HasTooLarge bytes
-ReadsScene bytes (Err fault) = IsFirstNodeFault bytes fault ⊎ HasStands bytes (Err fault)
+ReadsScene bytes (Err fault) = IsFirstNodeFault bytes fault ⊎ HasInstances bytes (Err fault)
 
 -- what a refusal says of the file: want of memory says nothing
 abbrev pub RefusesScene : SceneFault → List ℕ → Type 0

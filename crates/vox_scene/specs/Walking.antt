@@ -6,11 +6,11 @@ use Rattle.vox_scene.specs.declared.faults.SceneFault.TheVariants.{NoNode, TooDe
 use Rattle.vox_scene.specs.declared.nodes.Kind.{Kind}
 use Rattle.vox_scene.specs.declared.nodes.Kind.TheVariants.{Moves, Groups, Shows}
 use Rattle.vox_scene.specs.declared.nodes.Node.{Node}
-use Rattle.vox_scene.specs.declared.turnings.Turning.{Turning}
-use Rattle.vox_scene.specs.declared.turnings.Vector.{Vector}
-use Rattle.vox_scene.specs.declared.turnings.Pose.{Pose}
+use Rattle.vox_scene.specs.declared.rotations.Rotation.{Rotation}
+use Rattle.vox_scene.specs.declared.rotations.Vector.{Vector}
+use Rattle.vox_scene.specs.declared.rotations.Pose.{Pose}
 use Rattle.vox_scene.specs.Walks.{PlacedModel, Progress}
-use Rattle.vox_scene.specs.Turnings.{unturned, unmoved, at_rest, posed}
+use Rattle.vox_scene.specs.Rotations.{no_rotation, zero_shift, identity_pose, posed}
 use Rattle.vox_scene.specs.Nodes.{kind_with}
 
 -- the walk comes to a node of this id: what the node does, where there is one; whether it is the
@@ -21,19 +21,19 @@ pub record Visit : Type 0 where
   pub is_deep : Bool
   pub pose : Pose
 
-abbrev pub turning_or : Option Turning → Turning
-turning_or None = unturned
-turning_or (Some turning) = turning
+abbrev pub rotation_or_identity : Option Rotation → Rotation
+rotation_or_identity None = no_rotation
+rotation_or_identity (Some axis_map) = axis_map
 
 abbrev pub vector_or : Option Vector → Vector
-vector_or None = unmoved
+vector_or None = zero_shift
 vector_or (Some vector) = vector
 
 -- the visits below a node, each of whose children has these
 abbrev pub visits_below : Option Kind → Pose → (Pose → ℕ → List Visit) → List Visit
 visits_below None pose visits = []
-visits_below (Some (Moves child turning shift)) pose visits =
-    visits (posed pose (turning_or turning) (vector_or shift)) child
+visits_below (Some (Moves child axis_map shift)) pose visits =
+    visits (posed pose (rotation_or_identity axis_map) (vector_or shift)) child
 visits_below (Some (Groups children)) pose visits = flat_map (visits pose) children
 visits_below (Some (Shows model)) pose visits = []
 
@@ -47,7 +47,7 @@ visits nodes (suc room) pose id =
 
 -- node 0 is the first on each path, and 63 more can stand below it
 abbrev pub all_visits : List Node → List Visit
-all_visits nodes = visits nodes 64 at_rest 0
+all_visits nodes = visits nodes 64 identity_pose 0
 
 -- ---- how far the walk has come
 
@@ -55,7 +55,7 @@ all_visits nodes = visits nodes 64 at_rest 0
 abbrev pub shown : Kind → Option ℕ
 shown (Shows model) = model
 shown (Groups children) = None
-shown (Moves child turning shift) = None
+shown (Moves child axis_map shift) = None
 
 abbrev pub model_fault : ℕ → ℕ → Option ℕ → Option SceneFault
 model_fault models id None = None

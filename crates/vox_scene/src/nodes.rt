@@ -2,10 +2,10 @@ ghost use Rattle.std.specs.Prelude.{◌≡◌, ◌≤◌, ◌<◌, ◌+◌, ◌*
 ghost use Rattle.vox_chunk.specs.Frames.{number_at};
 ghost use Rattle.vox_scene.specs.Nodes.{is_mover, is_group, is_shape, is_node, dicts_end, first_frame, mover_of, mover_in, group_in, shown_end, first_shown, shape_kind_in, kind_in, with_id, node_in, if_found};
 ghost use Rattle.vox_scene.specs.Dicts.{dict_in, value_of};
-ghost use Rattle.vox_scene.specs.Turnings.{turning_told, shift_told};
+ghost use Rattle.vox_scene.specs.Rotations.{rotation_of_text, shift_of_text};
 
 use crate::dicts::{Dict, cut_dict, number};
-use crate::turnings::{Shift, Turning, shift_told, turning_told};
+use crate::rotations::{Rotation, Shift, rotation_of_text, shift_of_text};
 use std::marker::Model;
 
 /// The ids of a group's children, as they stand in the file.
@@ -26,10 +26,10 @@ impl<'f> Model for Children<'f> {
 /// What a node does: it turns and moves its child, it groups children, or it shows a model.
 #[derive(Drop)]
 pub enum Kind<'f> {
-    /// A turning or a move that is none is a fault of the file.
+    /// A rotation or a move that is none is a fault of the file.
     Moves {
         child: u32,
-        turning: Option<Turning>,
+        axis_map: Option<Rotation>,
         shift: Option<Shift>,
     },
     Groups(Children<'f>),
@@ -107,8 +107,8 @@ fn mover<'f>(child: u32, frames: u32, bytes: &'f [u8]) -> Kind<'f>
     }
     Kind::Moves {
         child,
-        turning: turning_told(None),
-        shift: shift_told(None),
+        axis_map: rotation_of_text(None),
+        shift: shift_of_text(None),
     }
 }
 
@@ -118,8 +118,8 @@ fn framed<'f>(child: u32, frame: &Dict<'f>) -> Kind<'f>
 {
     Kind::Moves {
         child,
-        turning: turning_told(frame.get(b"_r")),
-        shift: shift_told(frame.get(b"_t")),
+        axis_map: rotation_of_text(frame.get(b"_r")),
+        shift: shift_of_text(frame.get(b"_t")),
     }
 }
 

@@ -79,7 +79,7 @@ fn kind_fault(at: u32, kind: &Kind<'_>) -> Option<SceneFault>
     ensures { result ≡ kind_fault at kind.now }
 {
     match kind {
-        Kind::Moves { turning: None, .. } => Some(SceneFault::BadRotation(at)),
+        Kind::Moves { axis_map: None, .. } => Some(SceneFault::BadRotation(at)),
         Kind::Moves { shift: None, .. } => Some(SceneFault::BadTranslation(at)),
         _ => None,
     }

@@ -3,18 +3,18 @@ ghost use Rattle.std.specs.Prelude.{◌≡◌, ◌≤◌, ◌<◌, ◌+◌, ◌+
 ghost use Rattle.std.specs.List.{AllZip};
 ghost use Rattle.vox_read.specs.Contents.{Content, AreModels};
 ghost use Rattle.vox_read.specs.Files.{HasModels};
-ghost use Rattle.vox_scene.specs.Placing.{stand_at, IsTurned, AreTurned, IsPlaced};
+ghost use Rattle.vox_scene.specs.Placing.{instance_at, IsRotated, AreRotated, IsPlaced};
 ghost use Rattle.vox_write.specs.Written.{chunks_length, models_file};
-ghost use Rattle.vox_scene.specs.Scenes.{HasStands, HasScene, IsSceneOf, HasLarge, RefusesScene};
-ghost use Rattle.vox_scene.specs.Sound.{IsSound, StandsWithin};
+ghost use Rattle.vox_scene.specs.Scenes.{HasInstances, HasScene, IsSceneOf, HasLarge, RefusesScene};
+ghost use Rattle.vox_scene.specs.Sound.{IsSound, IsInstanceWithin};
 
 use crate::faults::SceneFault;
+use crate::model_instances::{ModelInstance, least_corner, place_models};
 use crate::painting::turned;
 use crate::reading::read_nodes;
+use crate::rotations::Vector;
 use crate::sides::{cells_of, least_side};
 use crate::sizes::scene_length;
-use crate::standing::{Standing, least_corner, stands};
-use crate::turnings::Vector;
 use std::alloc::Global;
 use std::marker::Model;
 use vox_read::{Models, read_models};
@@ -30,9 +30,9 @@ pub struct Scene {
 }
 
 impl Model for Scene {
-    ghost use Rattle.vox_scene.specs.Scenes.{SceneSeen};
+    ghost use Rattle.vox_scene.specs.Scenes.{SceneState};
 
-    ghost Value = { SceneSeen };
+    ghost Value = { SceneState };
 
     ghost view = { λ s. record { side = s.side; models = s.models; places = s.places.items } };
 }
@@ -66,11 +66,11 @@ pub fn read_scene(alloc: Global, bytes: &[u8]) -> Result<Scene, SceneFault>
     let Ok(models) = read_models(alloc, bytes) else {
         return Err(SceneFault::Memory);
     };
-    let standing = match file_stands(alloc, bytes, &models) {
-        Ok(standing) => standing,
+    let instanced = match file_stands(alloc, bytes, &models) {
+        Ok(instanced) => instanced,
         Err(fault) => return Err(fault),
     };
-    match scene_of(alloc, &models, standing.as_slice()) {
+    match scene_of(alloc, &models, instanced.as_slice()) {
         Ok(Some(scene)) => Ok(scene),
         Ok(None) => Err(SceneFault::TooLarge),
         Err(_) => Err(SceneFault::Memory),
@@ -78,53 +78,61 @@ pub fn read_scene(alloc: Global, bytes: &[u8]) -> Result<Scene, SceneFault>
 }
 
 // What stands where by the nodes of a file with these models.
-fn file_stands(alloc: Global, bytes: &[u8], models: &Models) -> Result<Vec<Standing>, SceneFault>
+fn file_stands(
+    alloc: Global,
+    bytes: &[u8],
+    models: &Models,
+) -> Result<Vec<ModelInstance>, SceneFault>
     requires short { length bytes.now ≤ 2 ^ 28 }
     requires models { AreModels models.now }
     requires has { HasModels bytes.now models.now }
     ensures stand { IfOk result
-        (λ standing. HasStands bytes.now (Ok (map (stand_at models.now) standing.items))) }
-    ensures few { IfOk result (λ standing. length standing.items ≤ 1024) }
+        (λ instanced. HasInstances bytes.now (Ok (map (instance_at models.now) instanced.items))) }
+    ensures few { IfOk result (λ instanced. length instanced.items ≤ 1024) }
     ensures sound { IfOk result
-        (λ standing. All IsSound (map (stand_at models.now) standing.items)) }
+        (λ instanced. All IsSound (map (instance_at models.now) instanced.items)) }
     ensures refused { IfErr result (λ fault. RefusesScene fault bytes.now) }
 {
     let nodes = match read_nodes(alloc, bytes) {
         Ok(nodes) => nodes,
         Err(fault) => return Err(fault),
     };
-    match stands(alloc, models, &nodes) {
-        Ok(standing) => Ok(standing),
+    match place_models(alloc, models, &nodes) {
+        Ok(instanced) => Ok(instanced),
         Err(fault) => Err(fault),
     }
 }
 
-// The scene of these stands; none where it is too large.
-fn scene_of(alloc: Global, models: &Models, standing: &[Standing]) -> Result<Option<Scene>, Memory>
+// The scene of these instances; none where it is too large.
+fn scene_of(
+    alloc: Global,
+    models: &Models,
+    instanced: &[ModelInstance],
+) -> Result<Option<Scene>, Memory>
     requires models { AreModels models.now }
-    requires few { length standing.now ≤ 1024 }
-    requires sound { All IsSound (map (stand_at models.now) standing.now) }
+    requires few { length instanced.now ≤ 1024 }
+    requires sound { All IsSound (map (instance_at models.now) instanced.now) }
     ensures scene { IfOk result (λ found. MatchOption found
-        (HasLarge (map (stand_at models.now) standing.now))
-        (λ scene. IsSceneOf (map (stand_at models.now) standing.now) scene)) }
+        (HasLarge (map (instance_at models.now) instanced.now))
+        (λ scene. IsSceneOf (map (instance_at models.now) instanced.now) scene)) }
     ensures models { IfOk result (λ found. IfSome found (λ scene. AreModels scene.models)) }
     ensures short { IfOk result
         (λ found. IfSome found (λ scene. 20 + chunks_length scene.models ≤ 2 ^ 28)) }
 {
-    let least = least_corner(standing);
-    let Some(exponent) = least_side(models, &least, standing) else {
+    let least = least_corner(instanced);
+    let Some(exponent) = least_side(models, &least, instanced) else {
         return Ok(None);
     };
-    if scene_length(alloc, models, standing)? > BYTES {
+    if scene_length(alloc, models, instanced)? > BYTES {
         return Ok(None);
     }
     let side = side_of(exponent);
-    let list = turned_all(alloc, models, standing)?;
+    let list = rotated_models(alloc, models, instanced)?;
     // the length was counted by cells; were this one greater, it would be told as want of memory
     if !is_short(list.as_slice()) {
         return Err(Memory);
     }
-    let places = places_of(alloc, models, &least, standing)?;
+    let places = places_of(alloc, models, &least, instanced)?;
     Ok(Some(Scene {
         side,
         models: Models { list },
@@ -163,62 +171,64 @@ fn side_of(exponent: u8) -> Side
 }
 
 // The turned models.
-fn turned_all(
+fn rotated_models(
     alloc: Global,
     models: &Models,
-    standing: &[Standing],
+    instanced: &[ModelInstance],
 ) -> Result<Vec<vox_read::Model>, Memory>
-    requires sound { All IsSound (map (stand_at models.now) standing.now) }
-    ensures { IfOk result (λ list. AreTurned (map (stand_at models.now) standing.now) list.items) }
+    requires sound { All IsSound (map (instance_at models.now) instanced.now) }
+    ensures { IfOk result
+        (λ list. AreRotated (map (instance_at models.now) instanced.now) list.items) }
 {
     let mut list = Vec::new(alloc);
-    for one in standing {
-        let model = turned_one(alloc, models, standing, list.as_slice(), one)?;
+    for one in instanced {
+        let model = rotated_model(alloc, models, instanced, list.as_slice(), one)?;
         list.push(model)?;
     }
     Ok(list)
 }
 
-// The turned model of a stand, where those of the first stands are known: what stands alike is
-// turned once.
-fn turned_one(
+// The turned model of an instance, where those of the first instances are known: what stands alike
+// is turned once.
+fn rotated_model(
     alloc: Global,
     models: &Models,
-    standing: &[Standing],
+    instanced: &[ModelInstance],
     known: &[vox_read::Model],
-    one: &Standing,
+    one: &ModelInstance,
 ) -> Result<vox_read::Model, Memory>
-    requires sound { IsSound (stand_at models.now one.now) }
-    requires known { AreTurned
-        (map (stand_at models.now) (take (length known.now) standing.now)) known.now }
-    ensures { IfOk result (λ m. IsTurned (stand_at models.now one.now).model one.now.turning m) }
+    requires sound { IsSound (instance_at models.now one.now) }
+    requires known { AreRotated
+        (map (instance_at models.now) (take (length known.now) instanced.now)) known.now }
+    ensures { IfOk result
+        (λ m. IsRotated (instance_at models.now one.now).model one.now.axis_map m) }
 {
-    if let Some(model) = turned_alike(standing, known, one) {
+    if let Some(model) = known_rotated(instanced, known, one) {
         return copied(alloc, model);
     }
     let Some(model) = models.list.get(one.model as usize) else {
         unreachable!()
     };
-    turned(alloc, model, &one.turning)
+    turned(alloc, model, &one.axis_map)
 }
 
-// The turned model of the first of some stands that shows the same model turned alike.
-fn turned_alike<'a>(
-    standing: &[Standing],
+// The turned model of the first of some instances that shows the same model turned alike.
+fn known_rotated<'a>(
+    instanced: &[ModelInstance],
     known: &'a [vox_read::Model],
-    one: &Standing,
+    one: &ModelInstance,
 ) -> Option<&'a vox_read::Model>
     ensures { (models : List Content)
-        → AreTurned (map (stand_at models) (take (length known.now) standing.now)) known.now
+        → AreRotated (map (instance_at models) (take (length known.now) instanced.now)) known.now
         → IfSome result
-        (λ m. IsTurned (stand_at models one.now).model one.now.turning m.now) }
+        (λ m. IsRotated (instance_at models one.now).model one.now.axis_map m.now) }
 {
-    match (standing, known) {
+    match (instanced, known) {
         ([first, others @ ..], [model, more @ ..]) => {
             if first.is_alike(one) {
                 return Some(model);
             }
-            turned_alike(others, more, one)
+            known_rotated(others, more, one)
         }
         _ => None,
     }
@@ -234,27 +244,27 @@ fn copied(alloc: Global, model: &vox_read::Model) -> Result<vox_read::Model, Mem
     })
 }
 
-// Where all stands stand, told from the least corner.
+// Where all instances stand, told from the least corner.
 fn places_of(
     alloc: Global,
     models: &Models,
     least: &Vector,
-    standing: &[Standing],
+    instanced: &[ModelInstance],
 ) -> Result<Vec<Cell>, Memory>
-    requires { All (StandsWithin least.now) (map (stand_at models.now) standing.now) }
+    requires { All (IsInstanceWithin least.now) (map (instance_at models.now) instanced.now) }
     ensures { IfOk result (λ places. AllZip (IsPlaced least.now)
-        (map (stand_at models.now) standing.now) places.items) }
+        (map (instance_at models.now) instanced.now) places.items) }
 {
     let mut places = Vec::new(alloc);
-    for one in standing {
+    for one in instanced {
         places.push(place_of(models, least, one))?;
     }
     Ok(places)
 }
 
-fn place_of(models: &Models, least: &Vector, one: &Standing) -> Cell
-    requires { StandsWithin least.now (stand_at models.now one.now) }
-    ensures { IsPlaced least.now (stand_at models.now one.now) result }
+fn place_of(models: &Models, least: &Vector, one: &ModelInstance) -> Cell
+    requires { IsInstanceWithin least.now (instance_at models.now one.now) }
+    ensures { IsPlaced least.now (instance_at models.now one.now) result }
 {
     Cell {
         x: past(least.x, one.corner.x),

@@ -1,24 +1,24 @@
-//! Which world holds all stands.
+//! Which world holds all instances.
 ghost use Rattle.std.specs.Prelude.{MatchOption, ◌≡◌, ◌≤◌, ◌^◌, ◌↔◌, pos, ◌+ℤ◌, ◌≤ℤ◌, List, map, IsTrue};
-ghost use Rattle.vox_scene.specs.Placing.{IsLeastSide, stand_at, EndsWithin, AllEndWithin, extent_at, turned_size};
-ghost use Rattle.vox_scene.specs.Turnings.{entry_on};
+ghost use Rattle.vox_scene.specs.Placing.{IsLeastSide, instance_at, EndsWithin, AllEndWithin, extent_at, rotated_size};
+ghost use Rattle.vox_scene.specs.Rotations.{entry_on};
 
-use crate::standing::{Standing, extent_at, turned_size};
-use crate::turnings::{Axis, Vector};
+use crate::model_instances::{ModelInstance, extent_at, rotated_size};
+use crate::rotations::{Axis, Vector};
 use vox_read::Models;
 use vw_cell::Cell;
 
-// Whether all stands end in the world of this side.
+// Whether all instances end in the world of this side.
 pub(crate) fn all_end_within(
     models: &Models,
     least: &Vector,
     side: u32,
-    standing: &[Standing],
+    instanced: &[ModelInstance],
 ) -> bool
     ensures { IsTrue result
-        ↔ AllEndWithin least.now (map (stand_at models.now) standing.now) side }
+        ↔ AllEndWithin least.now (map (instance_at models.now) instanced.now) side }
 {
-    for one in standing {
+    for one in instanced {
         if !ends_within(models, least, side, one) {
             return false;
         }
@@ -26,9 +26,9 @@ pub(crate) fn all_end_within(
     true
 }
 
-// Whether a stand ends in the world of this side.
-fn ends_within(models: &Models, least: &Vector, side: u32, one: &Standing) -> bool
-    ensures { IsTrue result ↔ EndsWithin least.now side (stand_at models.now one.now) }
+// Whether an instance ends in the world of this side.
+fn ends_within(models: &Models, least: &Vector, side: u32, one: &ModelInstance) -> bool
+    ensures { IsTrue result ↔ EndsWithin least.now side (instance_at models.now one.now) }
 {
     let size = size_of(models, one);
     let x = ends_by(Axis::X, &one.corner, size, least, side);
@@ -43,13 +43,13 @@ fn all_three(x: bool, y: bool, z: bool) -> bool
     x && y && z
 }
 
-// The size of a stand's turned model.
-fn size_of(models: &Models, one: &Standing) -> Cell
-    ensures { result ≡ turned_size one.now.turning (stand_at models.now one.now).model.size }
+// The size of an instance's turned model.
+fn size_of(models: &Models, one: &ModelInstance) -> Cell
+    ensures { result ≡ rotated_size one.now.axis_map (instance_at models.now one.now).model.size }
 {
     match models.list.get(one.model as usize) {
-        Some(model) => turned_size(&one.turning, model.size),
-        None => turned_size(&one.turning, Cell { x: 0, y: 0, z: 0 }),
+        Some(model) => rotated_size(&one.axis_map, model.size),
+        None => rotated_size(&one.axis_map, Cell { x: 0, y: 0, z: 0 }),
     }
 }
 
@@ -69,15 +69,15 @@ fn further(place: i32, by: u32) -> i64
     i64::from(place) + i64::from(by)
 }
 
-// The exponent of the least side that holds all stands, where one does.
-pub(crate) fn least_side(models: &Models, least: &Vector, standing: &[Standing]) -> Option<u8>
+// The exponent of the least side that holds all instances, where one does.
+pub(crate) fn least_side(models: &Models, least: &Vector, instanced: &[ModelInstance]) -> Option<u8>
     ensures { MatchOption result
-        (AllEndWithin least.now (map (stand_at models.now) standing.now) 4096 → ⊥)
-        (λ exponent. IsLeastSide least.now (map (stand_at models.now) standing.now) exponent) }
+        (AllEndWithin least.now (map (instance_at models.now) instanced.now) 4096 → ⊥)
+        (λ exponent. IsLeastSide least.now (map (instance_at models.now) instanced.now) exponent) }
 {
     let mut exponent: u8 = 2;
     while exponent <= 12 {
-        if all_end_within(models, least, cells_of(exponent), standing) {
+        if all_end_within(models, least, cells_of(exponent), instanced) {
             return Some(exponent);
         }
         exponent += 1;

@@ -3,14 +3,14 @@ ghost use Rattle.std.specs.List.{flat_map};
 ghost use Rattle.vox_scene.specs.declared.nodes.Node.{Node};
 ghost use Rattle.vox_scene.specs.Numbering.{numbers_of};
 ghost use Rattle.vox_scene.specs.Reading.{FindsNodes};
-ghost use Rattle.vox_scene.specs.Turnings.{IsNearOrigin, at_rest};
-ghost use Rattle.vox_scene.specs.Walking.{shown, visits, all_visits, walked, AnswersWalk, turning_or, vector_or, is_over, room_fault, behind_one, Enters};
+ghost use Rattle.vox_scene.specs.Rotations.{IsNearOrigin, identity_pose};
+ghost use Rattle.vox_scene.specs.Walking.{shown, visits, all_visits, walked, AnswersWalk, rotation_or_identity, vector_or, is_over, room_fault, behind_one, Enters};
 
 use crate::dicts::number;
 use crate::faults::SceneFault;
 use crate::nodes::Kind;
 use crate::reading::Nodes;
-use crate::turnings::{Pose, Shift, Turning, Vector, unmoved, unturned};
+use crate::rotations::{Pose, Rotation, Shift, Vector, no_rotation, zero_shift};
 use std::marker::Model;
 
 /// A model that a scene places: its number, and how it stands. Contracts see both.
@@ -21,7 +21,7 @@ pub struct Placed {
 }
 
 impl Model for Placed {
-    ghost use Rattle.vox_scene.specs.Turnings.{IsNearOrigin};
+    ghost use Rattle.vox_scene.specs.Rotations.{IsNearOrigin};
     ghost use Rattle.vox_scene.specs.Walks.{PlacedModel};
 
     ghost Value = { PlacedModel };
@@ -81,12 +81,12 @@ pub(crate) fn visit<'f>(
     match kind {
         Kind::Moves {
             child,
-            turning,
+            axis_map,
             shift,
         } => {
-            let turning = turning_or(*turning);
+            let axis_map = rotation_or_identity(*axis_map);
             let vector = vector_or(*shift);
-            let inner = pose.of_child(&turning, &vector, 64 - room);
+            let inner = pose.of_child(&axis_map, &vector, 64 - room);
             visit(nodes, models, room - 1, &inner, *child, walk)
         }
         Kind::Groups(children) => { visit_all(nodes, models, room - 1, pose, children.bytes, walk) }
@@ -166,12 +166,12 @@ fn is_over(walk: &Walk, model: Option<u32>) -> bool
     walk.visited >= VISITS || (model.is_some() && walk.placed.len() >= PLACED)
 }
 
-fn turning_or(turning: Option<Turning>) -> Turning
-    ensures { result ≡ turning_or turning }
+fn rotation_or_identity(axis_map: Option<Rotation>) -> Rotation
+    ensures { result ≡ rotation_or_identity axis_map }
 {
-    match turning {
-        Some(turning) => turning,
-        None => unturned(),
+    match axis_map {
+        Some(axis_map) => axis_map,
+        None => no_rotation(),
     }
 }
 

@@ -11,8 +11,8 @@ use Rattle.vw_cell.specs.declared.cells.Cell.{Cell}
 use Rattle.vox_chunk.specs.declared.faults.VoxFault.{VoxFault}
 use Rattle.vox_chunk.specs.Frames.{Bounds, number_at, id_at, content_at, end_of, header_of, main_of, place_of, FrameFits}
 use Rattle.vox_read.specs.declared.voxels.Voxel.{Voxel}
-use Rattle.vox_read.specs.Contents.{Content, IsModelExtent, IsSize, IsModel, StandsInside}
-use Rattle.vox_read.specs.Fields.{is_extent, is_size, size_in, size_fault, voxels_of, voxels_in, stands_in, voxels_fault, holds_its_voxels}
+use Rattle.vox_read.specs.Contents.{Content, IsModelExtent, IsSize, IsModel, IsInsideModel}
+use Rattle.vox_read.specs.Fields.{is_extent, is_size, size_in, size_fault, voxels_of, voxels_in, is_voxel_in, voxels_fault, holds_its_voxels}
 use Rattle.vox_read.specs.Children.{waiting_at, waiting_behind, models_in, models_before, fields_fault, child_fault}
 use Rattle.vox_read.specs.Files.{AreRead, HasModels, ReadsModels}
 use Rattle.vox_write.specs.Written.{number_bytes, file_front, size_bytes, voxel_bytes, model_file}
@@ -117,16 +117,16 @@ size_fine place size is =
       extent_is size.z is.z,
     ) refl
 
-all_inside : (size : Cell) (voxels : List Voxel) → All (StandsInside size) voxels
-    → list_all (stands_in size) voxels ≡ true
+all_inside : (size : Cell) (voxels : List Voxel) → All (IsInsideModel size) voxels
+    → list_all (is_voxel_in size) voxels ≡ true
 all_inside size [] all = refl
 all_inside size (v ∷ more) all =
-    let v_in = All-head (StandsInside size) v more all in
+    let v_in = All-head (IsInsideModel size) v more all in
     rw (
       lt-ltb v.x size.x v_in.x,
       lt-ltb v.y size.y v_in.y,
       lt-ltb v.z size.z v_in.z,
-      all_inside size more (All-tail (StandsInside size) v more all),
+      all_inside size more (All-tail (IsInsideModel size) v more all),
     ) refl
 
 groups_long : (voxels : List Voxel) → length (flat_map voxel_bytes voxels) ≡ 4 * length voxels
@@ -147,7 +147,7 @@ groups_read n groups long few =
     rw (number, all) refl
 
 voxels_fine : (place : ℕ) (size : Cell) (n : ℕ) (groups : List ℕ) → length groups ≡ 4 * n
-    → n ≤ 2 ^ 24 → list_all (stands_in size) (voxels_of groups) ≡ true
+    → n ≤ 2 ^ 24 → list_all (is_voxel_in size) (voxels_of groups) ≡ true
     → voxels_fault place size (number_bytes n ++ groups) ≡ None
 voxels_fine place size n groups long few inside =
     let number : number_at (number_bytes n ++ groups) 0 ≡ n = back n groups (omega (arith, few)) in
@@ -207,7 +207,7 @@ same_fields w v k l id other content more p q a b c d e = rw (a, b, c, d, e) ref
 
 second_fine : (bytes : List ℕ) (size : Cell) (n : ℕ) (groups : List ℕ) → IsSize size
     → IsLaidOut bytes size n groups → length groups ≡ 4 * n → n ≤ 2 ^ 24
-    → list_all (stands_in size) (voxels_of groups) ≡ true
+    → list_all (is_voxel_in size) (voxels_of groups) ≡ true
     → child_fault bytes 20 1 ≡ None
 second_fine bytes size n groups is laid long few inside =
     let place : place_of bytes 20 1 ≡ 44 = second_place bytes size n groups laid in
@@ -255,7 +255,7 @@ frame_at bytes end p q same head whole =
 
 children_read : (bytes : List ℕ) (size : Cell) (n : ℕ) (groups : List ℕ) → IsSize size
     → IsLaidOut bytes size n groups → length groups ≡ 4 * n → n ≤ 2 ^ 24
-    → list_all (stands_in size) (voxels_of groups) ≡ true
+    → list_all (is_voxel_in size) (voxels_of groups) ≡ true
     → AreRead bytes (record { first = 20; end = 60 + 4 * n }) 2
 children_read bytes size n groups is laid long few inside =
     let place : place_of bytes 20 1 ≡ 44 = second_place bytes size n groups laid in
@@ -272,7 +272,7 @@ children_read bytes size n groups is laid long few inside =
 
 models_read : (bytes : List ℕ) (size : Cell) (n : ℕ) (groups : List ℕ) → IsSize size
     → IsLaidOut bytes size n groups → length groups ≡ 4 * n → n ≤ 2 ^ 24
-    → list_all (stands_in size) (voxels_of groups) ≡ true
+    → list_all (is_voxel_in size) (voxels_of groups) ≡ true
     → HasModels bytes (record { size = size; voxels = voxels_of groups } ∷ [])
 models_read bytes size n groups is laid long few inside =
     let last : place_of bytes 20 2 ≡ 60 + 4 * n = last_place bytes size n groups laid in
@@ -286,15 +286,15 @@ models_read bytes size n groups is laid long few inside =
     }
 
 pub model_is_read : (size : Cell) (voxels : List Voxel) → IsSize size
-    → All (StandsInside size) voxels → length voxels ≤ 2 ^ 24
+    → All (IsInsideModel size) voxels → length voxels ≤ 2 ^ 24
     → HasModels (model_file (record { size = size; voxels = voxels }))
     (record { size = size; voxels = voxels } ∷ [])
 model_is_read size voxels is all few =
     let groups : List ℕ = flat_map voxel_bytes voxels in
     let long : length groups ≡ 4 * length voxels = groups_long voxels in
     let same : voxels_of groups ≡ voxels = voxels_are voxels in
-    let inside : list_all (stands_in size) (voxels_of groups) ≡ true =
-    ap (list_all (stands_in size)) same ∙ all_inside size voxels all in
+    let inside : list_all (is_voxel_in size) (voxels_of groups) ≡ true =
+    ap (list_all (is_voxel_in size)) same ∙ all_inside size voxels all in
     let bytes : List ℕ = spelled size (length voxels) groups in
     subst (λ (vs : List Voxel). HasModels bytes (record { size = size; voxels = vs } ∷ [])) same
     (models_read bytes size (length voxels) groups is

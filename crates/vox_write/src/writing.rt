@@ -1,6 +1,6 @@
 ghost use Rattle.std.specs.Prelude.{◌≡◌, ◌+◌, ◌*◌, ◌^◌, ◌<◌, ◌≤◌, ◌++◌, [], ◌∷◌, All, length, codes, Ok, OnOk, OnErr, vec_len, vec_capacity};
 ghost use Rattle.std.specs.List.{flat_map};
-ghost use Rattle.vox_read.specs.Contents.{IsSize, StandsInside};
+ghost use Rattle.vox_read.specs.Contents.{IsSize, IsInsideModel};
 ghost use Rattle.vox_read.specs.Files.{ReadsModels};
 ghost use Rattle.vox_write.specs.Written.{number_bytes, chunk_head, size_bytes, voxel_bytes, file_front, model_file, model_chunks, chunks_length, models_file};
 ghost use Rattle.vox_write.specs.WrittenLaws.{FilesAreRead};
@@ -17,7 +17,7 @@ use vw_cell::{Cell, Memory};
 #[tactic(auto, using(crate::specs::WrittenLaws::model_is_read))]
 pub fn write_model(size: Cell, voxels: &[Voxel], into: &mut Vec<u8>) -> Result<(), Memory>
     requires size { IsSize size }
-    requires inside { All (StandsInside size) voxels.now }
+    requires inside { All (IsInsideModel size) voxels.now }
     requires few { length voxels.now ≤ 2 ^ 24 }
     ensures written { OnOk result
         (into.new.items

@@ -5,36 +5,36 @@ use Rattle.vw_cell.specs.declared.cells.Cell.{Cell}
 use Rattle.history_model.specs.Ways.{Heading, heading_of}
 use Rattle.history_model.specs.declared.questions.Question.TheVariants as questions
 use Rattle.transcript.specs.declared.answers.Answer.{Answer}
-use Rattle.voxdag_c.specs.declared.held.worlds.World.{World}
+use Rattle.voxdag_c.specs.declared.held.worlds.CWorld.{CWorld}
 use Rattle.voxdag_c.specs.held.Calls.{ByHandle, OpensHandle, ClosesHandle, IsBegun, Refuses, WorldAsks}
 use Rattle.voxdag_c.proofs.OfHeld.Fitting.{same_steps}
 
-module _ (Untouched : Type 0) (Does : World → ℕ → World → Type 0) where
-  pub through_closed : (old new : Option World) → old ≡ None → new ≡ None → Untouched
+module _ (Untouched : Type 0) (Does : CWorld → ℕ → CWorld → Type 0) where
+  pub through_closed : (old new : Option CWorld) → old ≡ None → new ≡ None → Untouched
       → ByHandle Untouched Does old 1 new
   through_closed old new was now same =
-      subst (λ (o : Option World). ByHandle Untouched Does o 1 new) (sym was)
-      (subst (λ (n : Option World). ByHandle Untouched Does None 1 n) (sym now)
+      subst (λ (o : Option CWorld). ByHandle Untouched Does o 1 new) (sym was)
+      (subst (λ (n : Option CWorld). ByHandle Untouched Does None 1 n) (sym now)
       (ByHandle.closed same))
 
-  pub through_open : (old new : Option World) (w v : World) (status : ℕ) → Some w ≡ old
+  pub through_open : (old new : Option CWorld) (w v : CWorld) (status : ℕ) → Some w ≡ old
       → new ≡ Some v → Does w status v
       → ByHandle Untouched Does old status new
   through_open old new w v status was now does =
-      subst (λ (o : Option World). ByHandle Untouched Does o status new) was
-      (subst (λ (n : Option World). ByHandle Untouched Does (Some w) status n) (sym now)
+      subst (λ (o : Option CWorld). ByHandle Untouched Does o status new) was
+      (subst (λ (n : Option CWorld). ByHandle Untouched Does (Some w) status n) (sym now)
       (ByHandle.does w v status does))
 
 -- a call that changes nothing
-pub through_asks : (Untouched : Type 0) (Asks : World → ℕ → Type 0) (old new : Option World)
-    (w u v : World) (status : ℕ) → Some w ≡ old → u ≡ w → new ≡ Some v
+pub through_asks : (Untouched : Type 0) (Asks : CWorld → ℕ → Type 0) (old new : Option CWorld)
+    (w u v : CWorld) (status : ℕ) → Some w ≡ old → u ≡ w → new ≡ Some v
     → v ≡ u → Asks u status → ByHandle Untouched (λ x n y. (y ≡ x) × Asks x n) old status new
 through_asks Untouched Asks old new w u v status was is now same asks =
     through_open Untouched (λ x n y. (y ≡ x) × Asks x n) old new u v status
-    (ap (λ (x : World). Some x) is ∙ was) now (same, asks)
+    (ap (λ (x : CWorld). Some x) is ∙ was) now (same, asks)
 
 -- a ray by steps of 16 bits
-pub by_steps : {w : World} {version : ℕ} {from : Cell} {Written : Answer → Type 0}
+pub by_steps : {w : CWorld} {version : ℕ} {from : Cell} {Written : Answer → Type 0}
     {Untouched : Type 0} {status : ℕ} (dx dy dz : ℤ)
     → SFits w16 dx → SFits w16 dy → SFits w16 dz
     → WorldAsks w version
@@ -48,36 +48,36 @@ by_steps {w} {version} {from} {Written} {Untouched} {status} dx dy dz x y z asks
 
 -- ---- opening and closing
 
-module _ (side cap : ℕ) (bytes : List ℕ) where
-  pub opens_again : (old new : Option World) (w : World) → Some w ≡ old → new ≡ Some w
-      → OpensHandle side cap bytes old 13 new
+module _ (side cap keep : ℕ) (bytes : List ℕ) where
+  pub opens_again : (old new : Option CWorld) (w : CWorld) → Some w ≡ old → new ≡ Some w
+      → OpensHandle side cap keep bytes old 13 new
   opens_again old new w was now =
-      subst (λ (o : Option World). OpensHandle side cap bytes o 13 new) was
-      (subst (λ (n : Option World). OpensHandle side cap bytes (Some w) 13 n) (sym now)
+      subst (λ (o : Option CWorld). OpensHandle side cap keep bytes o 13 new) was
+      (subst (λ (n : Option CWorld). OpensHandle side cap keep bytes (Some w) 13 n) (sym now)
       (OpensHandle.is_open w))
 
-  pub opens_begun : (old new : Option World) (w : World) → old ≡ None → new ≡ Some w
-      → IsBegun side cap bytes w → OpensHandle side cap bytes old 0 new
+  pub opens_begun : (old new : Option CWorld) (w : CWorld) → old ≡ None → new ≡ Some w
+      → IsBegun side cap keep bytes w → OpensHandle side cap keep bytes old 0 new
   opens_begun old new w was now begun =
-      subst (λ (o : Option World). OpensHandle side cap bytes o 0 new) (sym was)
-      (subst (λ (n : Option World). OpensHandle side cap bytes None 0 n) (sym now)
+      subst (λ (o : Option CWorld). OpensHandle side cap keep bytes o 0 new) (sym was)
+      (subst (λ (n : Option CWorld). OpensHandle side cap keep bytes None 0 n) (sym now)
       (OpensHandle.begun w begun))
 
-  pub opens_not : (old new : Option World) (status : ℕ) → old ≡ None → new ≡ None
-      → Refuses side cap bytes status → OpensHandle side cap bytes old status new
+  pub opens_not : (old new : Option CWorld) (status : ℕ) → old ≡ None → new ≡ None
+      → Refuses side cap bytes status → OpensHandle side cap keep bytes old status new
   opens_not old new status was now why =
-      subst (λ (o : Option World). OpensHandle side cap bytes o status new) (sym was)
-      (subst (λ (n : Option World). OpensHandle side cap bytes None status n) (sym now)
+      subst (λ (o : Option CWorld). OpensHandle side cap keep bytes o status new) (sym was)
+      (subst (λ (n : Option CWorld). OpensHandle side cap keep bytes None status n) (sym now)
       (OpensHandle.refused status why))
 
-pub closes_none : (old new : Option World) → old ≡ None → new ≡ None → ClosesHandle old 1 new
+pub closes_none : (old new : Option CWorld) → old ≡ None → new ≡ None → ClosesHandle old 1 new
 closes_none old new was now =
-    subst (λ (o : Option World). ClosesHandle o 1 new) (sym was)
-    (subst (λ (n : Option World). ClosesHandle None 1 n) (sym now) ClosesHandle.closed)
+    subst (λ (o : Option CWorld). ClosesHandle o 1 new) (sym was)
+    (subst (λ (n : Option CWorld). ClosesHandle None 1 n) (sym now) ClosesHandle.closed)
 
-pub closes_some : (old new : Option World) (w : World) → Some w ≡ old → new ≡ None
+pub closes_some : (old new : Option CWorld) (w : CWorld) → Some w ≡ old → new ≡ None
     → ClosesHandle old 0 new
 closes_some old new w was now =
-    subst (λ (o : Option World). ClosesHandle o 0 new) was
-    (subst (λ (n : Option World). ClosesHandle (Some w) 0 n) (sym now)
+    subst (λ (o : Option CWorld). ClosesHandle o 0 new) was
+    (subst (λ (n : Option CWorld). ClosesHandle (Some w) 0 n) (sym now)
     (ClosesHandle.given_back w))

@@ -8,13 +8,17 @@
 mod asks;
 mod handle;
 mod kept;
+mod looks;
+mod openings;
 mod outputs;
 mod parts;
 mod places;
+mod shown;
 pub mod statuses;
 mod worlds;
 
 pub use handle::{Handle, handles_cross};
-pub use kept::Kept;
-pub use places::{Place, Stretch};
-pub use worlds::World;
+pub use kept::WorldPtr;
+pub use places::{CBox, CPlace};
+pub use shown::CShown;
+pub use worlds::CWorld;

@@ -2,7 +2,7 @@
 //!
 //! It touches memory alone, its own and what C hands in. Each number that C hands in is tested
 //! before it counts. A status is 0 where a command was carried out, and else says why not. What
-//! each call does is said in `specs/Calls.antt` of `held_world`, and `include/voxdag.h` has all of
+//! each call does is said in `specs/held/Calls.antt`, and `include/voxdag.h` has all of
 //! this in the words of C.
 #![tactic(auto)]
 
@@ -14,17 +14,19 @@ ghost use Rattle.history_model.specs.declared.acts.Act.TheVariants.{Fill, Erase,
 ghost use Rattle.history_model.specs.declared.acts.Act.TheVariants as acts;
 ghost use Rattle.history_model.specs.declared.questions.Question.TheVariants as questions;
 ghost use Rattle.transcript.specs.declared.answers.Answer.TheVariants as answers;
-ghost use Rattle.voxdag_c.specs.held.Places.{cell_of_place, box_of, ball_of, extent_of, hit_of};
+ghost use Rattle.voxdag_c.specs.held.Places.{cell_of_c_place, box_of, ball_of, extent_of, hit_of};
 ghost use Rattle.voxdag_c.specs.held.Calls.{ByHandle, WorldChanges, WorldForgets, WorldAsks, WorldCompares, WorldSaves, WorldJournals, OpensHandle};
-ghost use Rattle.voxdag_c.specs.held.Calls.{TellsNewest, TellsSize, WritesNothing, ClosesHandle};
+ghost use Rattle.voxdag_c.specs.held.Calls.{WorldDiffers, WorldShows, WorldFloods};
+ghost use Rattle.voxdag_c.specs.held.Calls.{PutsNewest, PutsSize, WritesNothing, ClosesHandle};
+ghost use Rattle.voxdag_c.specs.held.GoingOn.{GoesOnInHandle};
 
-use crate::held::{Handle, Place, Stretch, World, statuses as status};
+use crate::held::{CBox, CPlace, CShown, CWorld, Handle, statuses as status};
 use std::alloc::Global;
 
 /// Sets the cells of a box.
 #[tactic(auto, using(crate::proofs::Through::through_closed, crate::proofs::Through::through_open))]
 #[unsafe(no_mangle)]
-pub extern "C" fn voxdag_c_fill(alloc: Global, handle: &mut Handle, part: &Stretch) -> u32
+pub extern "C" fn voxdag_c_fill(alloc: Global, handle: &mut Handle, part: &CBox) -> u32
     ensures { ByHandle ⊤ (λ w status v. WorldChanges w (Fill (box_of part.now)) status v)
         handle.old.kept.value result handle.new.kept.value }
 {
@@ -41,7 +43,7 @@ pub extern "C" fn voxdag_c_fill(alloc: Global, handle: &mut Handle, part: &Stret
 /// Clears the cells of a box.
 #[tactic(auto, using(crate::proofs::Through::through_closed, crate::proofs::Through::through_open))]
 #[unsafe(no_mangle)]
-pub extern "C" fn voxdag_c_erase(alloc: Global, handle: &mut Handle, part: &Stretch) -> u32
+pub extern "C" fn voxdag_c_erase(alloc: Global, handle: &mut Handle, part: &CBox) -> u32
     ensures { ByHandle ⊤ (λ w status v. WorldChanges w (Erase (box_of part.now)) status v)
         handle.old.kept.value result handle.new.kept.value }
 {
@@ -61,7 +63,7 @@ pub extern "C" fn voxdag_c_erase(alloc: Global, handle: &mut Handle, part: &Stre
 pub extern "C" fn voxdag_c_ball(
     alloc: Global,
     handle: &mut Handle,
-    centre: &Place,
+    centre: &CPlace,
     radius: u32,
 ) -> u32
     ensures { ByHandle ⊤
@@ -84,7 +86,7 @@ pub extern "C" fn voxdag_c_ball(
 pub extern "C" fn voxdag_c_carve(
     alloc: Global,
     handle: &mut Handle,
-    centre: &Place,
+    centre: &CPlace,
     radius: u32,
 ) -> u32
     ensures { ByHandle ⊤ (λ w status v. WorldChanges w (Carve (ball_of centre.now radius)) status v)
@@ -103,14 +105,9 @@ pub extern "C" fn voxdag_c_carve(
 /// Puts what the box has where its least corner goes to the place.
 #[tactic(auto, using(crate::proofs::Through::through_closed, crate::proofs::Through::through_open))]
 #[unsafe(no_mangle)]
-pub extern "C" fn voxdag_c_copy(
-    alloc: Global,
-    handle: &mut Handle,
-    part: &Stretch,
-    to: &Place,
-) -> u32
+pub extern "C" fn voxdag_c_copy(alloc: Global, handle: &mut Handle, part: &CBox, to: &CPlace) -> u32
     ensures { ByHandle ⊤
-        (λ w status v. WorldChanges w (Copy (box_of part.now) (cell_of_place to.now)) status v)
+        (λ w status v. WorldChanges w (Copy (box_of part.now) (cell_of_c_place to.now)) status v)
         handle.old.kept.value result handle.new.kept.value }
 {
     match handle.take(alloc) {
@@ -126,9 +123,14 @@ pub extern "C" fn voxdag_c_copy(
 /// Sets the cells of a model, whose number counts from 0, with its least corner at the place.
 #[tactic(auto, using(crate::proofs::Through::through_closed, crate::proofs::Through::through_open))]
 #[unsafe(no_mangle)]
-pub extern "C" fn voxdag_c_stamp(alloc: Global, handle: &mut Handle, number: u16, at: &Place) -> u32
+pub extern "C" fn voxdag_c_stamp(
+    alloc: Global,
+    handle: &mut Handle,
+    number: u16,
+    at: &CPlace,
+) -> u32
     ensures { ByHandle ⊤
-        (λ w status v. WorldChanges w (Stamp number (cell_of_place at.now)) status v)
+        (λ w status v. WorldChanges w (Stamp number (cell_of_c_place at.now)) status v)
         handle.old.kept.value result handle.new.kept.value }
 {
     match handle.take(alloc) {
@@ -197,7 +199,7 @@ pub extern "C" fn voxdag_c_forget(alloc: Global, handle: &mut Handle, version: u
 #[unsafe(no_mangle)]
 pub extern "C" fn voxdag_c_newest(alloc: Global, handle: &mut Handle, version: &mut u32) -> u32
     ensures { ByHandle (version.new ≡ version.old)
-        (λ w status v. (v ≡ w) × TellsNewest w status version.new)
+        (λ w status v. (v ≡ w) × PutsNewest w status version.new)
         handle.old.kept.value result handle.new.kept.value }
 {
     match handle.take(alloc) {
@@ -217,10 +219,10 @@ pub extern "C" fn voxdag_c_model_size(
     alloc: Global,
     handle: &mut Handle,
     number: u16,
-    size: &mut Place,
+    size: &mut CPlace,
 ) -> u32
     ensures { ByHandle (size.new ≡ size.old)
-        (λ w status v. (v ≡ w) × TellsSize w number size.old size.new status)
+        (λ w status v. (v ≡ w) × PutsSize w number size.old size.new status)
         handle.old.kept.value result handle.new.kept.value }
 {
     match handle.take(alloc) {
@@ -240,11 +242,11 @@ pub extern "C" fn voxdag_c_get(
     alloc: Global,
     handle: &mut Handle,
     version: u32,
-    place: &Place,
+    place: &CPlace,
     set: &mut bool,
 ) -> u32
     ensures { ByHandle (set.new ≡ set.old)
-        (λ w status v. (v ≡ w) × WorldAsks w version (questions.Get (cell_of_place place.now))
+        (λ w status v. (v ≡ w) × WorldAsks w version (questions.Get (cell_of_c_place place.now))
         (λ a. a ≡ answers.Is set.new) (set.new ≡ set.old) status)
         handle.old.kept.value result handle.new.kept.value }
 {
@@ -265,7 +267,7 @@ pub extern "C" fn voxdag_c_count(
     alloc: Global,
     handle: &mut Handle,
     version: u32,
-    part: &Stretch,
+    part: &CBox,
     cells: &mut u64,
 ) -> u32
     ensures { ByHandle (cells.new ≡ cells.old)
@@ -290,7 +292,7 @@ pub extern "C" fn voxdag_c_faces(
     alloc: Global,
     handle: &mut Handle,
     version: u32,
-    part: &Stretch,
+    part: &CBox,
     faces: &mut u64,
 ) -> u32
     ensures { ByHandle (faces.new ≡ faces.old)
@@ -316,7 +318,7 @@ pub extern "C" fn voxdag_c_bounds(
     handle: &mut Handle,
     version: u32,
     some: &mut bool,
-    least: &mut Stretch,
+    least: &mut CBox,
 ) -> u32
     ensures { ByHandle ((some.new ≡ some.old) × (least.new ≡ least.old))
         (λ w status v. (v ≡ w) × WorldAsks w version (questions.Bounds)
@@ -342,16 +344,16 @@ pub extern "C" fn voxdag_c_ray(
     alloc: Global,
     handle: &mut Handle,
     version: u32,
-    from: &Place,
+    from: &CPlace,
     dx: i16,
     dy: i16,
     dz: i16,
     some: &mut bool,
-    hit: &mut Place,
+    hit: &mut CPlace,
 ) -> u32
     ensures { ByHandle ((some.new ≡ some.old) × (hit.new ≡ hit.old))
         (λ w status v. (v ≡ w) × WorldAsks w version
-        (questions.Ray (cell_of_place from.now) (heading_of dx dy dz))
+        (questions.Ray (cell_of_c_place from.now) (heading_of dx dy dz))
         (λ a. (a ≡ answers.Hit (hit_of some.new hit.new))
         × (some.new ≡ false → hit.new ≡ hit.old))
         ((some.new ≡ some.old) × (hit.new ≡ hit.old)) status)
@@ -398,7 +400,7 @@ pub extern "C" fn voxdag_c_save(
     alloc: Global,
     handle: &mut Handle,
     version: u32,
-    part: &Stretch,
+    part: &CBox,
     out: &mut [u8],
     needed: &mut usize,
 ) -> u32
@@ -440,6 +442,90 @@ pub extern "C" fn voxdag_c_journal(
     }
 }
 
+/// The least box of all cells in which two versions differ, where they do.
+#[tactic(auto, using(crate::proofs::Through::through_closed, crate::proofs::Through::through_open))]
+#[unsafe(no_mangle)]
+pub extern "C" fn voxdag_c_changes(
+    alloc: Global,
+    handle: &mut Handle,
+    a: u32,
+    b: u32,
+    some: &mut bool,
+    least: &mut CBox,
+) -> u32
+    ensures { ByHandle ((some.new ≡ some.old) × (least.new ≡ least.old))
+        (λ w status v. (v ≡ w) × WorldDiffers w a b
+        (λ found. (found ≡ extent_of some.new least.new)
+        × (some.new ≡ false → least.new ≡ least.old))
+        ((some.new ≡ some.old) × (least.new ≡ least.old)) status)
+        handle.old.kept.value result handle.new.kept.value }
+{
+    match handle.take(alloc) {
+        None => status::CLOSED,
+        Some(mut world) => {
+            let status = world.changes(a, b, some, least);
+            handle.put(world);
+            status
+        }
+    }
+}
+
+/// The cells of a box of a version that can be seen, and how many they are.
+#[tactic(auto, using(crate::proofs::Through::through_closed, crate::proofs::Through::through_open))]
+#[unsafe(no_mangle)]
+pub extern "C" fn voxdag_c_surface(
+    alloc: Global,
+    handle: &mut Handle,
+    version: u32,
+    part: &CBox,
+    out: &mut [CShown],
+    needed: &mut usize,
+) -> u32
+    ensures { ByHandle (WritesNothing out.old out.new needed.old needed.new)
+        (λ w status v. (v ≡ w) × WorldShows w version (box_of part.now)
+        out.old out.new needed.old needed.new status)
+        handle.old.kept.value result handle.new.kept.value }
+{
+    match handle.take(alloc) {
+        None => status::CLOSED,
+        Some(mut world) => {
+            let status = world.surface(alloc, version, *part, out, needed);
+            handle.put(world);
+            status
+        }
+    }
+}
+
+/// The region of a box of a version that is connected with a cell: how many cells, and its VOX
+/// file.
+#[tactic(auto, using(crate::proofs::Through::through_closed, crate::proofs::Through::through_open))]
+#[unsafe(no_mangle)]
+pub extern "C" fn voxdag_c_flood(
+    alloc: Global,
+    handle: &mut Handle,
+    version: u32,
+    part: &CBox,
+    from: &CPlace,
+    cells: &mut u64,
+    out: &mut [u8],
+    needed: &mut usize,
+) -> u32
+    ensures { ByHandle
+        ((cells.new ≡ cells.old) × WritesNothing out.old out.new needed.old needed.new)
+        (λ w status v. (v ≡ w) × WorldFloods w version (box_of part.now)
+        (cell_of_c_place from.now) cells.old cells.new out.old out.new needed.old needed.new status)
+        handle.old.kept.value result handle.new.kept.value }
+{
+    match handle.take(alloc) {
+        None => status::CLOSED,
+        Some(mut world) => {
+            let status = world.flood(alloc, version, *part, *from, cells, out, needed);
+            handle.put(world);
+            status
+        }
+    }
+}
+
 /// Opens an empty world of this side, from 4 to 4,096 and a power of two, with buckets of so many
 /// nodes, where 0 stands for the usual number, and with the models of a VOX file, where no bytes
 /// stand for no models.
@@ -451,18 +537,74 @@ pub extern "C" fn voxdag_c_open(
     cap: u16,
     file: &[u8],
 ) -> u32
-    ensures { OpensHandle side cap file.now handle.old.kept.value result handle.new.kept.value }
+    ensures { OpensHandle side cap 0 file.now handle.old.kept.value result handle.new.kept.value }
+{
+    open_as(alloc, handle, side, cap, 0, file)
+}
+
+/// The same of a world that keeps so many of its last versions, where 0 stands for all: as a change
+/// is made, the version that falls out of them is forgotten.
+#[unsafe(no_mangle)]
+pub extern "C" fn voxdag_c_open_as(
+    alloc: Global,
+    handle: &mut Handle,
+    side: u32,
+    cap: u16,
+    keep: u32,
+    file: &[u8],
+) -> u32
+    ensures { OpensHandle side cap keep file.now handle.old.kept.value result
+        handle.new.kept.value }
+{
+    open_as(alloc, handle, side, cap, keep, file)
+}
+
+fn open_as(alloc: Global, handle: &mut Handle, side: u32, cap: u16, keep: u32, file: &[u8]) -> u32
+    ensures { OpensHandle side cap keep file.now handle.old.kept.value result
+        handle.new.kept.value }
 {
     if let Some(world) = handle.take(alloc) {
         handle.put(world);
         return status::IS_OPEN;
     }
-    match World::from_bytes(alloc, side, cap, file) {
+    match CWorld::from_bytes(alloc, side, cap, keep, file) {
         Ok(world) => {
             handle.put(world);
             status::DONE
         }
         Err(status) => status,
+    }
+}
+
+/// Opens the world that stands behind a journal over the models of a VOX file, where no bytes stand
+/// for no models, with buckets of so many nodes, where 0 stands for the usual number, and from now
+/// on with so many of its last versions kept, where 0 stands for all. Where the journal is refused,
+/// its line is told.
+#[unsafe(no_mangle)]
+pub extern "C" fn voxdag_c_open_journal(
+    alloc: Global,
+    handle: &mut Handle,
+    cap: u16,
+    keep: u32,
+    file: &[u8],
+    journal: &[u8],
+    line: &mut u32,
+) -> u32
+    ensures { GoesOnInHandle cap keep file.now journal.now line.old line.new handle.old.kept.value
+        result handle.new.kept.value }
+{
+    match handle.take(alloc) {
+        Some(world) => {
+            handle.put(world);
+            status::IS_OPEN
+        }
+        None => match CWorld::from_journal(alloc, cap, keep, file, journal, line) {
+            Ok(world) => {
+                handle.put(world);
+                status::DONE
+            }
+            Err(status) => status,
+        },
     }
 }
 

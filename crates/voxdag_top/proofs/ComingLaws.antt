@@ -1,32 +1,34 @@
 -- Which status must come.
-use Rattle.std.proofs.Common.{◌≡◌, ℕ, inl, inr, ◌⊎◌, List, Option, Some, None, Ok, Err, refl, sym, ap, subst}
+use Rattle.std.proofs.Common.{◌≡◌, ℕ, inl, inr, ◌⊎◌, List, Option, Some, None, Ok, Err, sym, ap, subst}
 use Rattle.vw_io.specs.Outside.{Files, Rose, SinkState, ShelfState, Outside}
+use Rattle.vw_io.proofs.Written.{rose_since}
 use Rattle.vw_io.specs.declared.shelves.ReadRefused.{ReadRefused}
 use Rattle.vw_io.specs.declared.shelves.ReadRefused.TheVariants as reads
-use Rattle.vw_io.specs.declared.shelves.WriteRefused.{WriteRefused}
-use Rattle.vw_io.specs.declared.shelves.WriteRefused.TheVariants as writes
 use Rattle.script_files.specs.Closed.{Closed}
-use Rattle.script_files.specs.declared.refusals.CommandRefused.TheVariants.{Input, Text, Output}
-use Rattle.script_files.specs.declared.refusals.TextRefused.{TextRefused}
-use Rattle.script_files.specs.declared.refusals.TextRefused.TheVariants.{Vox, Script, Collides, NoScene, NoPlace, StoreFull, NoDag, Journal, Transcript, Memory}
+use Rattle.commands.specs.declared.refusals.CommandRefused.TheVariants.{Input, Text, Output}
+use Rattle.commands.specs.declared.refusals.OutputRefused.{OutputRefused}
+use Rattle.commands.specs.declared.refusals.OutputRefused.TheVariants as outputs
+use Rattle.commands.specs.declared.refusals.TextRefused.{TextRefused}
+use Rattle.commands.specs.declared.refusals.TextRefused.TheVariants.{StoreFull, Memory}
 use Rattle.node_words.specs.declared.shares.Full.{Full}
-use Rattle.script_files.specs.declared.requests.Request.{Request}
+use Rattle.requests.specs.declared.orders.Request.{Request}
 use Rattle.script_files.specs.declared.tallies.Completed.{Completed}
 use Rattle.script_files.specs.Commands.{meaning_of}
-use Rattle.script_files.specs.Judging.{Follows}
-use Rattle.script_files.specs.Verdicts.{Verdict, Fine, FollowsRead, FollowsWrite, FollowsText}
-use Rattle.script_files.proofs.Following.{outcome_follows}
+use Rattle.commands.specs.Judging.{Follows}
+use Rattle.commands.specs.Verdicts.{Verdict, Fine, FollowsRead, FollowsText}
+use Rattle.commands.proofs.Following.{outcome_follows}
 use Rattle.script_files.proofs.Judged.{judged_of}
 use Rattle.voxdag_top.specs.declared.endings.Ending.{Ending}
 use Rattle.voxdag_top.specs.declared.endings.Ending.TheVariants.{Usage, Refused}
 use Rattle.voxdag_top.specs.declared.endings.Ending.TheVariants as endings
-use Rattle.voxdag_top.specs.Numbers.{Status, Misuse, LackingMemory, FilledStore, IsOr}
+use Rattle.voxdag_top.specs.Numbers.{Status, Misuse, FailedInput, FailedOutput, LackingMemory, FilledStore, IsOr}
 use Rattle.voxdag_top.specs.Endings.{CommandEnds, EndsAs, EndsUnread, status_of, input_status, output_status, text_status}
 use Rattle.voxdag_top.specs.Finishing.{Finishes, Runs, put, failed, lacking}
 use Rattle.voxdag_top.specs.Promises.{Promises}
-use Rattle.voxdag_top.specs.Verdicts.{JudgesWords, HasStore, MayCome, status_for}
-use Rattle.voxdag_top.specs.Words.{request_of}
-use Rattle.voxdag_top.proofs.StatusLaws.{run_says}
+use Rattle.voxdag_top.specs.Verdicts.{JudgesWords, HasStore, MayCome, HasFailedShelf, status_for}
+use Rattle.requests.specs.Words.{request_of}
+use Rattle.voxdag_top.specs.Statuses.{InputTold, StatusSays, WriteFailed}
+use Rattle.voxdag_top.proofs.StatusLaws.{run_says, said_at}
 
 -- where the ending is this, its status comes, or 7 or 8
 comes : (e : Ending) {result : ℕ} {old new : SinkState} → Finishes e old new result
@@ -58,17 +60,32 @@ EndFollows v (endings.Completed done) = v ≡ Fine
 EndFollows v Usage = ⊥
 EndFollows v (Refused r) = Follows {T = Completed} v (Err r)
 
-read_status : (v : Verdict) (why : ReadRefused) (name : List ℕ) (result : ℕ)
-    → FollowsRead v why name → IsOr (input_status why) result → IsOr (status_for v) result
-read_status v reads.Missing name result follows is = by_verdict v _ result follows is
-read_status v reads.TooLong name result follows is = by_verdict v _ result follows is
-read_status v reads.Failed name result follows is = absurd follows
-read_status v reads.Memory name result follows is = memory_or (status_for v) result is
+-- a status that may come, or one of a shelf that failed
+abbrev Comes : Option Request → Verdict → ℕ → Type 0
+Comes a v result = MayCome a v result ⊎ HasFailedShelf result
 
-write_status : (v : Verdict) (why : WriteRefused) (result : ℕ) → FollowsWrite why
-    → IsOr (output_status why) result → IsOr (status_for v) result
-write_status v writes.Failed result follows is = absurd follows
-write_status v writes.Memory result follows is = memory_or (status_for v) result is
+failed_input_or : (a : Option Request) (v : Verdict) (result : ℕ) → IsOr FailedInput result
+    → Comes a v result
+failed_input_or a v result (inl is) = inr (inl is)
+failed_input_or a v result (inr other) = inl (inl (inr other))
+
+failed_output_or : (a : Option Request) (v : Verdict) (result : ℕ) → IsOr FailedOutput result
+    → Comes a v result
+failed_output_or a v result (inl is) = inr (inr is)
+failed_output_or a v result (inr other) = inl (inl (inr other))
+
+read_status : (a : Option Request) (v : Verdict) (why : ReadRefused) (name : List ℕ) (result : ℕ)
+    → FollowsRead v why name → IsOr (input_status why) result → Comes a v result
+read_status a v reads.Missing name result follows is = inl (inl (by_verdict v _ result follows is))
+read_status a v reads.TooLong name result follows is = inl (inl (by_verdict v _ result follows is))
+read_status a v reads.Failed name result follows is = failed_input_or a v result is
+read_status a v reads.Memory name result follows is =
+    inl (inl (memory_or (status_for v) result is))
+
+write_status : (a : Option Request) (v : Verdict) (r : OutputRefused) (result : ℕ)
+    → IsOr (output_status r) result → Comes a v result
+write_status a v (outputs.Failed line) result is = failed_output_or a v result is
+write_status a v outputs.Memory result is = inl (inl (memory_or (status_for v) result is))
 
 -- of a command with a store of its own alone
 filled_has_store : (a : Option Request) (full : Full) (old new : ShelfState)
@@ -92,39 +109,38 @@ text_comes a v _ result old new ends follows is = inl (by_verdict v _ result fol
 
 status_follows : (a : Option Request) (v : Verdict) (e : Ending) (result : ℕ)
     (old new : ShelfState) → EndsAs a e old new → EndFollows v e → IsOr (status_of e) result
-    → MayCome a v result
+    → Comes a v result
 status_follows a v (endings.Completed done) result old new ends follows is =
-    inl (by_verdict v Fine result follows is)
+    inl (inl (by_verdict v Fine result follows is))
 status_follows a v Usage result old new ends follows is = absurd follows
 status_follows a v (Refused (Input r)) result old new ends follows is =
-    inl (read_status v r.why r.name.now result follows is)
+    read_status a v r.why r.name.now result follows is
 status_follows a v (Refused (Text r)) result old new ends follows is =
-    text_comes a v r result old new ends follows is
+    inl (text_comes a v r result old new ends follows is)
 status_follows a v (Refused (Output r)) result old new ends follows is =
-    inl (write_status v r.why result follows is)
+    write_status a v r result is
 
 command_follows : (a : Request) (e : Ending) (old new : ShelfState) (files : Files) (v : Verdict)
-    → CommandEnds e a old new → old.files ≡ Some files → (Rose old.faults new.faults → ⊥)
-    → JudgesWords (Some a) files v → EndFollows v e
-command_follows a (endings.Completed c) old new files v ends told calm judges =
-    outcome_follows (meaning_of a) (judged_of a) (Ok c) old new ends files v told calm judges
-command_follows a Usage old new files v ends told calm judges = absurd ends
-command_follows a (Refused r) old new files v ends told calm judges =
-    outcome_follows (meaning_of a) (judged_of a) (Err r) old new ends files v told calm judges
+    → CommandEnds e a old new → old.files ≡ Some files → JudgesWords (Some a) files v
+    → EndFollows v e
+command_follows a (endings.Completed c) old new files v ends told judges =
+    outcome_follows (meaning_of a) (judged_of a) (Ok c) old new ends files v told judges
+command_follows a Usage old new files v ends told judges = absurd ends
+command_follows a (Refused r) old new files v ends told judges =
+    outcome_follows (meaning_of a) (judged_of a) (Err r) old new ends files v told judges
 
 end_follows : (a : Option Request) (e : Ending) (old new : ShelfState) (files : Files) (v : Verdict)
-    → EndsAs a e old new → old.files ≡ Some files → (Rose old.faults new.faults → ⊥)
-    → JudgesWords a files v → EndFollows v e
-end_follows None e old new files v ends told calm judges = absurd judges
-end_follows (Some a) e old new files v ends told calm judges =
-    command_follows a e old new files v ends told calm judges
+    → EndsAs a e old new → old.files ≡ Some files → JudgesWords a files v → EndFollows v e
+end_follows None e old new files v ends told judges = absurd judges
+end_follows (Some a) e old new files v ends told judges =
+    command_follows a e old new files v ends told judges
 
 comes_by : (a : Option Request) (old new : Outside) (result : ℕ) (left : Option Closed)
     → Runs a old new result left → (files : Files) (v : Verdict) → old.shelf.files ≡ Some files
-    → (Rose old.shelf.faults new.shelf.faults → ⊥) → JudgesWords a files v → MayCome a v result
-comes_by a old new result left run files v told calm judges =
+    → JudgesWords a files v → Comes a v result
+comes_by a old new result left run files v told judges =
     status_follows a v run.ending result old.shelf new.shelf run.ends
-    (end_follows a run.ending old.shelf new.shelf files v run.ends told calm judges)
+    (end_follows a run.ending old.shelf new.shelf files v run.ends told judges)
     (comes run.ending run.finish)
 
 -- words outside the grammar end in their status, or in that of want of memory
@@ -148,3 +164,39 @@ promises words old new result left run = record {
       (comes run.ending run.finish);
   comes = comes_by (request_of words) old new result left run;
 }
+
+-- ---- over a shelf that doesn't fail
+
+input_calm : (a : Option Request) (old new : Outside) → InputTold reads.Failed a old new
+    → Rose old.shelf.faults new.shelf.faults
+input_calm None old new told = absurd told.stops
+input_calm (Some a) old new told =
+    rose_since old.shelf.faults told.stops.at_read new.shelf.faults told.stops.before
+    told.stops.cause
+
+output_calm : (a : Option Request) (old new : Outside) → WriteFailed a old new
+    → Rose old.shelf.faults new.shelf.faults
+output_calm None old new told = absurd told.breaks
+output_calm (Some a) old new told = told.breaks.stops.1
+
+failed_calm : (a : Option Request) (left : Option Closed) (old new : Outside) (n : ℕ)
+    → StatusSays n a left old new → HasFailedShelf n → Rose old.shelf.faults new.shelf.faults
+failed_calm a left old new n says (inl is) =
+    input_calm a old new (said_at n a left old new says FailedInput is)
+failed_calm a left old new n says (inr is) =
+    output_calm a old new (said_at n a left old new says FailedOutput is)
+
+calm_by : (a : Option Request) (v : Verdict) (n : ℕ) → (HasFailedShelf n → ⊥) → Comes a v n
+    → MayCome a v n
+calm_by a v n calm (inl may) = may
+calm_by a v n calm (inr fell) = absurd (calm fell)
+
+-- the status of the verdict comes where the count of faults doesn't rise
+pub calm_comes : (words : List (List ℕ)) (left : Option Closed) (old new : Outside) (n : ℕ)
+    → Promises words left old new n → (files : Files) (v : Verdict)
+    → old.shelf.files ≡ Some files → (Rose old.shelf.faults new.shelf.faults → ⊥)
+    → JudgesWords (request_of words) files v → MayCome (request_of words) v n
+calm_comes words left old new n promised files v told calm judges =
+    calm_by (request_of words) v n
+    (λ fell. calm (failed_calm (request_of words) left old new n promised.says fell))
+    (promised.comes files v told judges)

@@ -2,9 +2,9 @@
 use Rattle.std.proofs.Common.{◌≡◌, ℕ, Option, Some, None, refl, arith}
 use Rattle.vw_io.specs.Outside.{ShelfState, SinkState, outside}
 use Rattle.script_files.specs.Closed.{Closed}
-use Rattle.script_files.specs.declared.refusals.CommandRefused.TheVariants.{Text}
-use Rattle.script_files.specs.declared.refusals.TextRefused.TheVariants.{Memory}
-use Rattle.script_files.specs.declared.requests.Request.{Request}
+use Rattle.commands.specs.declared.refusals.CommandRefused.TheVariants.{Text}
+use Rattle.commands.specs.declared.refusals.TextRefused.TheVariants.{Memory}
+use Rattle.requests.specs.declared.orders.Request.{Request}
 use Rattle.voxdag_top.specs.declared.endings.Ending.TheVariants.{Refused}
 use Rattle.voxdag_top.specs.Endings.{EndsAs, ended_with}
 use Rattle.voxdag_top.specs.Finishing.{Finishes, Runs}

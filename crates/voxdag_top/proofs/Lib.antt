@@ -1,7 +1,5 @@
-pub mod Sides
 pub mod StatusLaws
 pub mod ComingLaws
 pub mod VerdictLaws
-pub mod Rooms
+pub mod Holding
 pub mod Lacking
-pub mod ShortWords

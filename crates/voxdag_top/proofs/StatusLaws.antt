@@ -1,27 +1,25 @@
 -- What each status says, by the case of the ending and of the put of its line.
-use Rattle.std.proofs.Common.{◌≡◌, ℕ, zero, suc, ap, inl, inr, List, [], ◌∷◌, Option, Some, None, refl, sym, subst, ◌∙◌, ◌⊎◌}
+use Rattle.std.proofs.Common.{◌≡◌, ℕ, zero, suc, ap, inl, inr, List, [], ◌∷◌, Option, Some, None, refl, sym, subst, ◌∙◌}
 use Rattle.std.specs.List.{slice_get}
-use Rattle.vw_io.specs.Outside.{ShelfState, Outside}
+use Rattle.vw_io.specs.Outside.{Outside}
 use Rattle.vw_io.specs.Inputs.{StopsAt}
 use Rattle.vw_io.specs.declared.inputs.InputRefused.{InputRefused}
 use Rattle.vw_io.specs.declared.shelves.ReadRefused.{ReadRefused}
 use Rattle.vw_io.specs.declared.shelves.ReadRefused.TheVariants as reads
-use Rattle.vw_io.specs.declared.shelves.WriteRefused.{WriteRefused}
-use Rattle.vw_io.specs.declared.shelves.WriteRefused.TheVariants as writes
-use Rattle.script_files.specs.declared.refusals.CommandRefused.TheVariants.{Input, Text, Output}
-use Rattle.script_files.specs.declared.refusals.OutputRefused.{OutputRefused}
-use Rattle.script_files.specs.declared.refusals.TextRefused.{TextRefused}
-use Rattle.script_files.specs.declared.refusals.TextRefused.TheVariants.{Vox, Script, Collides, NoScene, NoPlace, StoreFull, NoDag, Journal, Transcript, Memory}
-use Rattle.script_files.specs.declared.requests.Request.{Request}
+use Rattle.commands.specs.declared.refusals.CommandRefused.TheVariants.{Input, Text, Output}
+use Rattle.commands.specs.declared.refusals.OutputRefused.{OutputRefused}
+use Rattle.commands.specs.declared.refusals.OutputRefused.TheVariants as outputs
+use Rattle.commands.specs.declared.refusals.TextRefused.{TextRefused}
+use Rattle.commands.specs.declared.refusals.TextRefused.TheVariants.{Vox, Script, Collides, NoScene, NoPlace, StoreFull, NoDag, Journal, Transcript, Memory}
+use Rattle.requests.specs.declared.orders.Request.{Request}
 use Rattle.script_files.specs.Commands.{meaning_of}
 use Rattle.script_files.specs.Closed.{Closed}
-use Rattle.script_files.specs.Outcomes.{BreaksOff, Completes}
-use Rattle.script_files.specs.Refusals.{output_name}
+use Rattle.commands.specs.Outcomes.{Completes}
 use Rattle.voxdag_top.specs.declared.endings.Ending.{Ending}
 use Rattle.voxdag_top.specs.declared.endings.Ending.TheVariants.{Completed, Usage, Refused}
-use Rattle.voxdag_top.specs.Lines.{Puts, input_line, output_line}
+use Rattle.voxdag_top.specs.Lines.{Puts, input_line}
 use Rattle.voxdag_top.specs.Numbers.{Status, Finished, Misuse, MissingInput, FailedInput, FaultyVox, FaultyScript, FailedOutput, FailedLine, LackingMemory, LongInput, NoSuchPlace, FaultyScene, FaultyJournal, FilledStore, FaultyDag, FaultyTranscript, status_number}
-use Rattle.voxdag_top.specs.Endings.{EndsAs, EndsUnread, ended_with, ending_line, status_of, input_status, output_status, text_status, WriteMayLackLine}
+use Rattle.voxdag_top.specs.Endings.{EndsAs, EndsUnread, ended_with, ending_line, status_of, input_status, output_status, text_status}
 use Rattle.voxdag_top.specs.Finishing.{Finishes, Runs, put, failed, lacking}
 use Rattle.voxdag_top.specs.Statuses.{InputTold, StatusMeans, StatusSays}
 
@@ -86,30 +84,16 @@ module _ (a : Request) (left : Option Closed) (old new : Outside) where
     );
   }
 
-  output_means : (why : WriteRefused) (r : OutputRefused) → r.why ≡ why
-      → EndsAs (Some a) (Refused (Output r)) old.shelf new.shelf
+  output_means : (r : OutputRefused) → EndsAs (Some a) (Refused (Output r)) old.shelf new.shelf
       → Puts old.out.told new.out.told (ending_line (Refused (Output r)))
-      → StatusMeans (output_status why) (Some a) left old new
-  output_means writes.Failed r is ends puts = record {
-    name = output_name r.name;
-    breaks = subst
-        (λ (w : WriteRefused). BreaksOff w (output_name r.name) (meaning_of a).inputs
-        (meaning_of a).begins old.shelf new.shelf) is ends;
-    line = subst
-        (λ (w : WriteRefused). Puts old.out.told new.out.told (output_line w (output_name r.name)))
-        is puts;
+      → StatusMeans (output_status r) (Some a) left old new
+  output_means (outputs.Failed line) ends puts = record {
+    name = ends.name;
+    breaks = ends.breaks;
+    line = subst (λ (l : List ℕ). Puts old.out.told new.out.told l) ends.holds puts;
   }
-  output_means writes.Memory r is ends puts = record {
-    ending = Refused (Output r);
-    ends = ends;
-    line = inl (
-      subst WriteMayLackLine (sym is) tt,
-      subst
-          (λ (w : WriteRefused). Puts old.out.told new.out.told
-          (output_line w (output_name r.name)))
-          is puts,
-    );
-  }
+  output_means outputs.Memory ends puts =
+      record { ending = Refused (Output outputs.Memory); ends = ends; line = inl (tt, puts) }
 
   text_means : (r : TextRefused) → EndsAs (Some a) (Refused (Text r)) old.shelf new.shelf
       → Puts old.out.told new.out.told (ending_line (Refused (Text r)))
@@ -157,7 +141,7 @@ own (Some a) (Refused (Input r)) left old new ends gives puts =
     input_means a left old new r.why r refl ends puts
 own (Some a) (Refused (Text r)) left old new ends gives puts = text_means a left old new r ends puts
 own (Some a) (Refused (Output r)) left old new ends gives puts =
-    output_means a left old new r.why r refl ends puts
+    output_means a left old new r ends puts
 
 -- ---- by the put of the line
 

@@ -1,11 +1,11 @@
 -- What the words ask of told files has one verdict.
 use Rattle.std.proofs.Common.{◌≡◌, Option, Some, None}
 use Rattle.vw_io.specs.Outside.{Files}
-use Rattle.script_files.specs.declared.requests.Request.{Request}
+use Rattle.requests.specs.declared.orders.Request.{Request}
 use Rattle.script_files.specs.Commands.{meaning_of}
-use Rattle.script_files.specs.Judging.{FilesAreRead}
-use Rattle.script_files.specs.Verdicts.{Verdict}
-use Rattle.script_files.proofs.Following.{judged_once, judged_some, not_without}
+use Rattle.commands.specs.Judging.{FilesAreRead}
+use Rattle.commands.specs.Verdicts.{Verdict}
+use Rattle.commands.proofs.Following.{judged_once, judged_some, not_without}
 use Rattle.script_files.proofs.Judged.{judged_of}
 use Rattle.voxdag_top.specs.Verdicts.{JudgesWords, ReadsNoJournal}
 

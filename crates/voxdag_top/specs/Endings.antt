@@ -3,19 +3,18 @@ use Rattle.std.specs.Prelude.{◌≡◌, ℕ, List, Option, Some, None, Ok, Err,
 use Rattle.vw_io.specs.Outside.{ShelfState}
 use Rattle.vw_io.specs.declared.shelves.ReadRefused.{ReadRefused}
 use Rattle.vw_io.specs.declared.shelves.ReadRefused.TheVariants as reads
-use Rattle.vw_io.specs.declared.shelves.WriteRefused.{WriteRefused}
-use Rattle.vw_io.specs.declared.shelves.WriteRefused.TheVariants as writes
 use Rattle.vox_chunk.specs.Faults.{kind_of, position_of}
 use Rattle.vox_scene.specs.Faults.{scene_kind_of, place_of_fault}
 use Rattle.script.specs.Faults.{number_of_kind}
-use Rattle.script_files.specs.declared.refusals.CommandRefused.{CommandRefused}
-use Rattle.script_files.specs.declared.refusals.CommandRefused.TheVariants.{Input, Text, Output}
-use Rattle.script_files.specs.declared.refusals.TextRefused.{TextRefused}
-use Rattle.script_files.specs.declared.refusals.TextRefused.TheVariants.{Vox, Script, Collides, NoScene, NoPlace, StoreFull, NoDag, Journal, Transcript, Memory}
-use Rattle.script_files.specs.declared.requests.Request.{Request}
+use Rattle.commands.specs.declared.refusals.CommandRefused.{CommandRefused}
+use Rattle.commands.specs.declared.refusals.CommandRefused.TheVariants.{Input, Text, Output}
+use Rattle.commands.specs.declared.refusals.OutputRefused.{OutputRefused}
+use Rattle.commands.specs.declared.refusals.OutputRefused.TheVariants as outputs
+use Rattle.commands.specs.declared.refusals.TextRefused.{TextRefused}
+use Rattle.commands.specs.declared.refusals.TextRefused.TheVariants.{Vox, Script, Collides, NoScene, NoPlace, StoreFull, NoDag, Journal, Transcript, Memory}
+use Rattle.requests.specs.declared.orders.Request.{Request}
 use Rattle.script_files.specs.Commands.{meaning_of}
-use Rattle.script_files.specs.Outcomes.{Outcome}
-use Rattle.script_files.specs.Refusals.{output_name}
+use Rattle.commands.specs.Outcomes.{Outcome}
 use Rattle.std.proofs.Common.{zero}
 use Rattle.script_files.specs.Closed.{Closed}
 use Rattle.voxdag_top.specs.Numbers.{Status, Finished, Misuse, MissingInput, FailedInput, FaultyVox, FaultyScript, FailedOutput, LackingMemory, LongInput, NoSuchPlace, FaultyScene, FaultyJournal, FilledStore, FaultyDag, FaultyTranscript}
@@ -46,9 +45,9 @@ input_status reads.Failed = FailedInput
 input_status reads.Memory = LackingMemory
 input_status reads.TooLong = LongInput
 
-abbrev pub output_status : WriteRefused → Status
-output_status writes.Failed = FailedOutput
-output_status writes.Memory = LackingMemory
+abbrev pub output_status : OutputRefused → Status
+output_status (outputs.Failed line) = FailedOutput
+output_status outputs.Memory = LackingMemory
 
 abbrev pub text_status : TextRefused → Status
 text_status (Vox fault) = FaultyVox
@@ -65,7 +64,7 @@ text_status Memory = LackingMemory
 abbrev pub refused_status : CommandRefused → Status
 refused_status (Input r) = input_status r.why
 refused_status (Text r) = text_status r
-refused_status (Output r) = output_status r.why
+refused_status (Output r) = output_status r
 
 abbrev pub status_of : Ending → Status
 status_of (Completed c) = Finished
@@ -87,7 +86,7 @@ text_line Memory = memory_line
 abbrev pub refused_line : CommandRefused → List ℕ
 refused_line (Input r) = input_line r.why r.name.now
 refused_line (Text r) = text_line r
-refused_line (Output r) = output_line r.why (output_name r.name)
+refused_line (Output r) = output_line r
 
 abbrev pub ending_line : Ending → List ℕ
 ending_line (Completed c) = done_line c.done
@@ -96,18 +95,23 @@ ending_line (Refused r) = refused_line r
 
 -- the ending's line may lack memory, and then the one of want of memory stands for it: not at a
 -- fault of an output, whose file may be half written
-abbrev pub WriteMayLackLine : WriteRefused → Type 0
-WriteMayLackLine writes.Failed = ⊥
-WriteMayLackLine writes.Memory = ⊤
+abbrev pub OutputMayLackLine : OutputRefused → Type 0
+OutputMayLackLine (outputs.Failed line) = ⊥
+OutputMayLackLine outputs.Memory = ⊤
 
 abbrev pub RefusalMayLackLine : CommandRefused → Type 0
 RefusalMayLackLine (Input r) = ⊤
 RefusalMayLackLine (Text r) = ⊤
-RefusalMayLackLine (Output r) = WriteMayLackLine r.why
+RefusalMayLackLine (Output r) = OutputMayLackLine r
 
 abbrev pub MayLackLine : Ending → Type 0
 MayLackLine (Refused r) = RefusalMayLackLine r
 MayLackLine _ = ⊤
+
+-- else the ending holds its line
+pub record HoldsOwnLine (e : Ending) (line : List ℕ) : Type 0 where
+  pub is : line ≡ ending_line e
+  pub status : status_of e ≡ FailedOutput
 
 -- the closed world that is given with this status
 abbrev pub ended_with : Ending → ℕ → Option Closed

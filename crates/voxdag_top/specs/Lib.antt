@@ -1,5 +1,3 @@
-pub mod Questions
-pub mod Words
 pub mod Lines
 pub mod Numbers
 pub mod Endings

@@ -1,18 +1,18 @@
 -- The line that each ending puts on the output.
-use Rattle.std.specs.Prelude.{◌≡◌, ℕ, ◌+◌, List, [], ◌∷◌, ◌++◌, Bool, if◌then◌else◌, Option, Some, None, codes}
+use Rattle.std.specs.Prelude.{◌≡◌, ℕ, ◌+◌, List, [], ◌∷◌, ◌++◌, Bool, if◌then◌else◌, Option, Some, None, codes, string_bytes}
 use Rattle.std.specs.Fmt.{decimal}
 use Rattle.vw_io.specs.Put.{AppendsPrefix}
 use Rattle.vw_io.specs.declared.shelves.ReadRefused.{ReadRefused}
 use Rattle.vw_io.specs.declared.shelves.ReadRefused.TheVariants as reads
-use Rattle.vw_io.specs.declared.shelves.WriteRefused.{WriteRefused}
-use Rattle.vw_io.specs.declared.shelves.WriteRefused.TheVariants as writes
+use Rattle.commands.specs.declared.refusals.OutputRefused.{OutputRefused}
+use Rattle.commands.specs.declared.refusals.OutputRefused.TheVariants as outputs
 use Rattle.script_files.specs.declared.tallies.Done.{Done}
 use Rattle.script_files.specs.declared.tallies.Done.TheVariants.{Written, Counted, Ran, Shown, Placed, Looked, Answered}
 use Rattle.transcript.specs.declared.answers.Answer.{Answer}
 use Rattle.transcript.specs.Lines.{answer_text}
 use Rattle.script_files.specs.declared.tallies.Tally.{Tally}
 use Rattle.script_files.specs.declared.tallies.LoadTally.{LoadTally}
-use Rattle.script_files.specs.declared.tallies.SceneTally.{SceneTally}
+use Rattle.commands.specs.declared.scene_files.SceneTally.{SceneTally}
 
 abbrev pub count_line : ℕ → List ℕ
 count_line n = decimal n ++ codes "\n"
@@ -67,25 +67,23 @@ transcript_line script line =
 abbrev pub dag_line : ℕ → List ℕ
 dag_line at = codes "voxdag: dag " ++ (decimal at ++ codes "\n")
 
-abbrev pub write_fault_line : List ℕ → List ℕ
-write_fault_line name = codes "voxdag: write fault " ++ (name ++ codes "\n")
-
 abbrev pub too_long_line : List ℕ → List ℕ
 too_long_line name = codes "voxdag: too long " ++ (name ++ codes "\n")
 
 abbrev pub memory_line : List ℕ
 memory_line = codes "voxdag: memory\n"
 
--- the line of an input that was not taken, and of an output that was not written
+-- the line of an input that was not taken
 abbrev pub input_line : ReadRefused → List ℕ → List ℕ
 input_line reads.Missing name = missing_line name
 input_line reads.TooLong name = too_long_line name
 input_line reads.Failed name = read_fault_line name
 input_line reads.Memory name = memory_line
 
-abbrev pub output_line : WriteRefused → List ℕ → List ℕ
-output_line writes.Failed name = write_fault_line name
-output_line writes.Memory name = memory_line
+-- the refusal of an output holds the line of a fault
+abbrev pub output_line : OutputRefused → List ℕ
+output_line (outputs.Failed line) = string_bytes line
+output_line outputs.Memory = memory_line
 
 -- the lines of a load's run: its number, its records, and each region's count, from this one on
 abbrev pub region_lines : ℕ → List ℕ → List ℕ

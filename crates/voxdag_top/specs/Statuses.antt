@@ -8,17 +8,18 @@ use Rattle.vw_io.specs.declared.shelves.ReadRefused.TheVariants as reads
 use Rattle.vw_io.specs.declared.shelves.WriteRefused.TheVariants as writes
 use Rattle.vox_chunk.specs.declared.faults.VoxFault.{VoxFault}
 use Rattle.vox_scene.specs.declared.faults.SceneFault.{SceneFault}
-use Rattle.script_files.specs.declared.refusals.NumberedFault.{NumberedFault}
-use Rattle.script_files.specs.declared.refusals.TranscriptLine.{TranscriptLine}
-use Rattle.script_files.specs.declared.refusals.TextRefused.{TextRefused}
-use Rattle.script_files.specs.declared.refusals.TextRefused.TheVariants as texts
+use Rattle.commands.specs.declared.refusals.NumberedFault.{NumberedFault}
+use Rattle.commands.specs.declared.refusals.TranscriptLine.{TranscriptLine}
+use Rattle.commands.specs.declared.refusals.TextRefused.{TextRefused}
+use Rattle.commands.specs.declared.refusals.TextRefused.TheVariants as texts
 use Rattle.script_files.specs.Closed.{Closed}
 use Rattle.script_files.specs.declared.tallies.Done.{Done}
 use Rattle.node_words.specs.declared.shares.Full.{Full}
-use Rattle.script_files.specs.declared.requests.Request.{Request}
+use Rattle.requests.specs.declared.orders.Request.{Request}
 use Rattle.script_files.specs.Commands.{meaning_of}
-use Rattle.script_files.specs.Outcomes as outcomes
-use Rattle.voxdag_top.specs.Lines.{usage_line, input_line, write_fault_line, memory_line, done_line, Puts, PutsBeginning}
+use Rattle.commands.specs.Outcomes as outcomes
+use Rattle.commands.specs.Putting.{write_fault_line}
+use Rattle.voxdag_top.specs.Lines.{usage_line, input_line, memory_line, done_line, Puts, PutsBeginning}
 use Rattle.voxdag_top.specs.Numbers.{Status, Finished, Misuse, MissingInput, FailedInput, FaultyVox, FaultyScript, FailedOutput, FailedLine, LackingMemory, LongInput, NoSuchPlace, FaultyScene, FaultyJournal, FilledStore, FaultyDag, FaultyTranscript, status_number}
 use Rattle.voxdag_top.specs.declared.endings.Ending.{Ending}
 use Rattle.voxdag_top.specs.Endings.{EndsAs, ending_line, text_line, MayLackLine}

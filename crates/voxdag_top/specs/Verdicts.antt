@@ -1,13 +1,13 @@
 -- Which status must come, for what the words ask of a shelf that tells its files.
 use Rattle.std.specs.Prelude.{◌≡◌, ◌⊎◌, ℕ, List, false, Option, Some, None}
 use Rattle.vw_io.specs.Outside.{Files}
-use Rattle.script_files.specs.declared.requests.Request.{Request}
-use Rattle.script_files.specs.Verdicts.{Verdict, Fine, LacksInput, InputIsLong, HasVoxFault, HasScriptFault, NamesCollide, HasNoPlace, HasSceneFault, HasDagFault, HasJournalFault, HasTranscriptFault}
-use Rattle.script_files.specs.declared.refusals.TextRefused.TheVariants.{StoreFull}
+use Rattle.requests.specs.declared.orders.Request.{Request}
+use Rattle.commands.specs.Verdicts.{Verdict, Fine, LacksInput, InputIsLong, HasVoxFault, HasScriptFault, NamesCollide, HasNoPlace, HasSceneFault, HasDagFault, HasJournalFault, HasTranscriptFault}
+use Rattle.commands.specs.declared.refusals.TextRefused.TheVariants.{StoreFull}
 use Rattle.script_files.specs.Commands.{meaning_of}
-use Rattle.script_files.specs.Judging as commands
+use Rattle.commands.specs.Judging as commands
 use Rattle.node_words.specs.declared.shares.Full.{Full}
-use Rattle.voxdag_top.specs.Numbers.{Status, Finished, Misuse, MissingInput, FaultyVox, FaultyScript, LongInput, NoSuchPlace, FaultyScene, FaultyJournal, FilledStore, FaultyDag, FaultyTranscript, IsOr, status_number}
+use Rattle.voxdag_top.specs.Numbers.{Status, Finished, Misuse, MissingInput, FailedInput, FaultyVox, FaultyScript, FailedOutput, LongInput, NoSuchPlace, FaultyScene, FaultyJournal, FilledStore, FaultyDag, FaultyTranscript, IsOr, status_number}
 
 -- whether it asks for texts alone of which it is computed what they say: not for a journal
 abbrev pub ReadsNoJournal : Request → Type 0
@@ -31,14 +31,19 @@ status_for (HasDagFault place) = FaultyDag
 status_for HasJournalFault = FaultyJournal
 status_for HasTranscriptFault = FaultyTranscript
 
--- where nothing is wrong the status is 0, or 7 or 8, and of a command with a store of its own,
--- which some texts can fill, it may be 13
+-- of a command with a store of its own, which some texts can fill
 abbrev pub HasStore : Option Request → Type 0
 HasStore None = ⊥
 HasStore (Some a) =
     (texts : List (List ℕ)) × (full : Full) × (meaning_of a).refuses texts (StoreFull full)
 
+-- the status of the verdict, or 7 or 8; where nothing is wrong, of a command with a store 13
 abbrev pub MayCome : Option Request → Verdict → ℕ → Type 0
 MayCome a v result =
     IsOr (status_for v) result
     ⊎ (HasStore a × (v ≡ Fine) × (result ≡ status_number FilledStore))
+
+-- the shelf failed at an input or at an output
+abbrev pub HasFailedShelf : ℕ → Type 0
+HasFailedShelf result =
+    (result ≡ status_number FailedInput) ⊎ (result ≡ status_number FailedOutput)

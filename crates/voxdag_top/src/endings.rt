@@ -1,4 +1,5 @@
-use script_files::{CommandRefused, Completed, Ended};
+use commands::CommandRefused;
+use script_files::{Completed, Ended};
 
 /// How the program ends, before the line that says it is put. The clauses of [`crate::voxdag`]
 /// speak of it where the line could not be put; no call gives one.

@@ -1,31 +1,23 @@
-ghost use Rattle.std.specs.Prelude.{◌≡◌, ◌≤◌, ◌<◌, ◌^◌, ◌+◌, ◌∷◌, ◌++◌, [], OnOk, All, length, map, codes, IfOk, IsOkAnd, IfSome, OnErr, string_bytes, string_capacity};
+ghost use Rattle.std.specs.Prelude.{◌≡◌, ◌<◌, ◌^◌, ◌+◌, ◌∷◌, ◌++◌, [], OnOk, length, IfOk, MatchOption, string_bytes};
 ghost use Rattle.script.specs.Faults.{number_of_kind};
-ghost use Rattle.voxdag_top.specs.Lines.{done_line, run_line, demo_lines, placed_line, looked_line, answer_line, region_lines, script_line, input_line, output_line, write_fault_line};
+ghost use Rattle.voxdag_top.specs.Lines.{done_line, run_line, demo_lines, placed_line, looked_line, answer_line, region_lines, script_line, input_line};
 ghost use Rattle.voxdag_top.specs.Numbers.{status_number};
-ghost use Rattle.voxdag_top.specs.Endings.{ended_with, ending_line, refused_line, text_line, status_of, refused_status, MayLackLine, RefusalMayLackLine, WriteMayLackLine};
-ghost use Rattle.script_files.specs.Refusals.{output_name, IsOutputName};
-ghost use Rattle.script_files.specs.Requests.{transcript_name};
-ghost use Rattle.script_files.specs.Commands.{scripts_asked};
-ghost use Rattle.voxdag_top.specs.Finishing.{PutEnds, Finishes, NamesFit, OutputsFit, HasLineRoom, RefusalHasRoom, WriteHasRoom};
+ghost use Rattle.voxdag_top.specs.Endings.{ended_with, ending_line, refused_line, text_line, status_of, refused_status, HoldsOwnLine, MayLackLine, RefusalMayLackLine};
+ghost use Rattle.voxdag_top.specs.Finishing.{PutEnds, Finishes};
 
 use crate::endings::{Ending, Gated};
-use script_files::{
-    CommandRefused, Done, Ended, LoadTally, NumberedFault, Order, OutputName, OutputRefused,
-    Request, SceneTally, Tally, TextRefused, demo_order,
-};
+use commands::{CommandRefused, NumberedFault, OutputRefused, SceneTally, TextRefused};
+use script_files::{Done, Ended, LoadTally, Tally};
 use std::alloc::{AllocError, Global};
 use transcript::Answer;
-use vw_io::{InputRefused, PutRefused, ReadRefused, Sink, WriteRefused};
+use vw_io::{InputRefused, PutRefused, ReadRefused, Sink};
 
-// Puts the ending's line, and gives the status and the closed world. The room is for a line that
-// must not lack memory.
-pub(crate) fn finish<O: Sink>(alloc: Global, ending: Ending<'_>, room: String, out: &mut O) -> Gated
-    requires empty { string_bytes room ≡ [] }
-    requires room { HasLineRoom ending (string_capacity room) }
+// Puts the ending's line, and gives the status and the closed world.
+pub(crate) fn finish<O: Sink>(alloc: Global, ending: Ending<'_>, out: &mut O) -> Gated
     ensures line { Finishes ending.entry (O.state out.old) (O.state out.new) result.status }
     ensures ended { result.ended ≡ ended_with ending.entry result.status }
 {
-    let status = put_ending(alloc, &ending, room, out);
+    let status = put_ending(alloc, &ending, out);
     let ended = ended_with(ending, status);
     Gated { status, ended }
 }
@@ -43,12 +35,41 @@ fn ended_with(ending: Ending<'_>, status: u8) -> Option<Ended>
     }
 }
 
-fn put_ending<O: Sink>(alloc: Global, ending: &Ending<'_>, room: String, out: &mut O) -> u8
-    requires empty { string_bytes room ≡ [] }
-    requires room { HasLineRoom ending.now (string_capacity room) }
+#[tactic(auto, using(crate::proofs::Holding::held_finishes))]
+fn put_ending<O: Sink>(alloc: Global, ending: &Ending<'_>, out: &mut O) -> u8
     ensures { Finishes ending.now (O.state out.old) (O.state out.new) result }
 {
-    match line(alloc, ending, room) {
+    match held_line(ending) {
+        Some(line) => put_line(line.as_bytes(), 6, out),
+        None => put_made(alloc, ending, out),
+    }
+}
+
+// The line that the ending holds, where it is a fault at an output.
+fn held_line<'a>(ending: &'a Ending<'_>) -> Option<&'a str>
+    ensures { MatchOption result (MayLackLine ending.now)
+        (λ line. HoldsOwnLine ending.now line.now) }
+{
+    match ending {
+        Ending::Completed(_) => None,
+        Ending::Usage => None,
+        Ending::Refused(refused) => match refused {
+            CommandRefused::Input(_) => None,
+            CommandRefused::Text(_) => None,
+            CommandRefused::Output(output) => match output {
+                OutputRefused::Failed(line) => Some(line.as_str()),
+                OutputRefused::Memory => None,
+            },
+        },
+    }
+}
+
+// The same of an ending whose line is made now.
+fn put_made<O: Sink>(alloc: Global, ending: &Ending<'_>, out: &mut O) -> u8
+    requires { MayLackLine ending.now }
+    ensures { Finishes ending.now (O.state out.old) (O.state out.new) result }
+{
+    match line(alloc, ending) {
         Ok(text) => put_line(text.as_bytes(), status(ending), out),
         Err(_) => put_line(b"voxdag: memory\n", 8, out),
     }
@@ -96,23 +117,21 @@ fn refused_status(refused: &CommandRefused<'_>) -> u8
             TextRefused::Script(_) => 5,
             TextRefused::Memory => 8,
         },
-        CommandRefused::Output(output) => match output.why {
-            WriteRefused::Failed => 6,
-            WriteRefused::Memory => 8,
+        CommandRefused::Output(output) => match output {
+            OutputRefused::Failed(_) => 6,
+            OutputRefused::Memory => 8,
         },
     }
 }
 
-fn line(alloc: Global, ending: &Ending<'_>, room: String) -> Result<String, AllocError>
-    requires empty { string_bytes room ≡ [] }
-    requires room { HasLineRoom ending.now (string_capacity room) }
-    ensures text { IfOk result (λ text. string_bytes text ≡ ending_line ending.now) }
-    ensures lacking { OnErr result (MayLackLine ending.now) }
+fn line(alloc: Global, ending: &Ending<'_>) -> Result<String, AllocError>
+    requires { MayLackLine ending.now }
+    ensures { IfOk result (λ text. string_bytes text ≡ ending_line ending.now) }
 {
     match ending {
         Ending::Completed(completed) => done_line(alloc, completed.done),
         Ending::Usage => format!(in alloc; "voxdag: usage\n"),
-        Ending::Refused(refused) => refused_line(alloc, refused, room),
+        Ending::Refused(refused) => refused_line(alloc, refused),
     }
 }
 
@@ -195,20 +214,17 @@ fn answer_line(alloc: Global, answer: bool) -> Result<String, AllocError>
     }
 }
 
-fn refused_line(
-    alloc: Global,
-    refused: &CommandRefused<'_>,
-    room: String,
-) -> Result<String, AllocError>
-    requires empty { string_bytes room ≡ [] }
-    requires room { RefusalHasRoom refused.now (string_capacity room) }
-    ensures text { IfOk result (λ text. string_bytes text ≡ refused_line refused.now) }
-    ensures lacking { OnErr result (RefusalMayLackLine refused.now) }
+fn refused_line(alloc: Global, refused: &CommandRefused<'_>) -> Result<String, AllocError>
+    requires { RefusalMayLackLine refused.now }
+    ensures { IfOk result (λ text. string_bytes text ≡ refused_line refused.now) }
 {
     match refused {
         CommandRefused::Input(input) => input_line(alloc, input),
         CommandRefused::Text(text) => text_line(alloc, text),
-        CommandRefused::Output(output) => output_line(alloc, output, room),
+        CommandRefused::Output(output) => match output {
+            OutputRefused::Failed(_) => unreachable!(),
+            OutputRefused::Memory => format!(in alloc; "voxdag: memory\n"),
+        },
     }
 }
 
@@ -266,90 +282,4 @@ fn script_line(alloc: Global, at: &NumberedFault) -> Result<String, AllocError>
     let line = at.fault.line;
     let kind = at.fault.kind.number();
     format!(in alloc; "voxdag: script {script} {line} {kind}\n")
-}
-
-fn output_line(
-    alloc: Global,
-    output: &OutputRefused<'_>,
-    room: String,
-) -> Result<String, AllocError>
-    requires empty { string_bytes room ≡ [] }
-    requires room { WriteHasRoom output.now.why (output_name output.now.name)
-        (string_capacity room) }
-    requires named { IsOutputName output.now.name }
-    ensures text { IfOk result
-        (λ text. string_bytes text ≡ output_line output.now.why (output_name output.now.name)) }
-    ensures lacking { OnErr result (WriteMayLackLine output.now.why) }
-{
-    match output.why {
-        WriteRefused::Failed => write_fault_line(name_text(&output.name), room),
-        WriteRefused::Memory => format!(in alloc; "voxdag: memory\n"),
-    }
-}
-
-fn name_text<'a>(name: &'a OutputName<'_>) -> &'a str
-    requires { IsOutputName name.now }
-    ensures { result.now ≡ output_name name.now }
-{
-    match name {
-        OutputName::Given(name) => name,
-        OutputName::Saved(name) => name.as_str(),
-    }
-}
-
-// The line is made in this room, and so lacks no memory.
-fn write_fault_line(name: &str, room: String) -> Result<String, AllocError>
-    requires empty { string_bytes room ≡ [] }
-    requires room { length (write_fault_line name.now) ≤ string_capacity room }
-    ensures { IsOkAnd result (λ text. string_bytes text ≡ write_fault_line name.now) }
-{
-    let mut line = room;
-    line.push_str("voxdag: write fault ")?;
-    line.push_str(name)?;
-    line.push_str("\n")?;
-    Ok(line)
-}
-
-/// The most bytes of a name under which a script saves.
-const SAVE_NAME: usize = 64;
-
-// The length of the longest line that tells a fault of an output of this command.
-pub(crate) fn fault_room(asked: &Request<'_>, transcripts: &[String]) -> usize
-    requires { map string_bytes transcripts.now ≡ map transcript_name (scripts_asked asked.now) }
-    ensures { OutputsFit asked.now result }
-{
-    match asked {
-        Request::Count(_) => 0,
-        Request::Run(order) => write_fault_room(order, transcripts),
-        Request::Demo(_) => write_fault_room(&demo_order(), transcripts),
-        Request::Flood(order) => order.out.len() + 21,
-        Request::Scene(order) => order.out.len().max(order.script.len()) + 21,
-        Request::Dag(order) => order.out.len() + 21,
-        Request::Look(_) => 0,
-        Request::Audit(_) => 0,
-    }
-}
-
-// The same of this run.
-fn write_fault_room(order: &Order<'_>, transcripts: &[String]) -> usize
-    requires { map string_bytes transcripts.now ≡ map transcript_name order.now.scripts }
-    ensures { NamesFit order.now result }
-{
-    let words = name_length(order.journal).max(name_length(order.report));
-    let mut longest = words.max(SAVE_NAME);
-    for transcript in transcripts {
-        longest = longest.max(transcript.len());
-    }
-    longest + 21
-}
-
-// The length of the name of what is wanted.
-fn name_length(name: Option<&str>) -> usize
-    ensures all { IfSome name.entry (λ n. length n.now ≤ result) }
-    ensures small { result < 2 ^ 63 }
-{
-    match name {
-        None => 0,
-        Some(name) => name.len(),
-    }
 }

@@ -16,13 +16,15 @@ has_next LowZ side cells c = nat_lt 0 c.z && cells (cell_at c.x c.y (c.z - 1))
 has_next HighZ side cells c = nat_lt (c.z + 1) side && cells (cell_at c.x c.y (c.z + 1))
 
 -- the cell is set, and the place next to it is unset or outside of the world
-abbrev pub is_bare : Direction → ℕ → (Cell → Bool) → Cell → Bool
-is_bare direction side cells c = cells c && not (has_next direction side cells c)
+abbrev pub is_exposed : Direction → ℕ → (Cell → Bool) → Cell → Bool
+is_exposed direction side cells c = cells c && not (has_next direction side cells c)
 
--- the number of pairs of a set cell of a box and a side of it at which the cell is bare
+-- the number of pairs of a set cell of a box and a side of it at which the cell is exposed
 abbrev pub faces_in : ℕ → (Cell → Bool) → Boxed → ℕ
 faces_in side cells b =
-    number_in b (is_bare LowX side cells) + number_in b (is_bare HighX side cells) + number_in b
-    (is_bare LowY side cells)
-    + number_in b (is_bare HighY side cells) + number_in b (is_bare LowZ side cells) + number_in b
-    (is_bare HighZ side cells)
+    number_in b (is_exposed LowX side cells) + number_in b
+    (is_exposed HighX side cells) + number_in b
+    (is_exposed LowY side cells)
+    + number_in b (is_exposed HighY side cells) + number_in b
+    (is_exposed LowZ side cells) + number_in b
+    (is_exposed HighZ side cells)

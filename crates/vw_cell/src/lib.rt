@@ -2,8 +2,8 @@
 //! name.
 //!
 //! Every layer above speaks of membership by the definitions in `specs/Places.antt` alone. What may
-//! be asked of a world's cells is said here too, with no block, node or version: the bare sides of
-//! cells in `specs/Faces.antt`, the least box of all cells in `specs/Extents.antt`.
+//! be asked of a world's cells is said here too, with no block, node or version: the exposed sides
+//! of cells in `specs/Faces.antt`, the least box of all cells in `specs/Extents.antt`.
 #![tactic(auto)]
 
 mod balls;

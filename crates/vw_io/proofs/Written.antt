@@ -7,7 +7,7 @@ use Rattle.std.proofs.lemmas.Bool.Decides.{not_from_Decides}
 use Rattle.vw_io.specs.declared.shelves.WriteRefused.{WriteRefused}
 use Rattle.vw_io.specs.declared.shelves.WriteRefused.TheVariants.{Failed, Memory}
 use Rattle.vw_io.specs.Outside.{Files, Rose}
-use Rattle.vw_io.specs.Write.{WriteTold, WriteCause}
+use Rattle.vw_io.specs.Write.{WriteSpec, WriteCause}
 use Rattle.vw_io.specs.Outputs.{Named, written, AreWritten, StopsWith}
 use Rattle.vw_io.proofs.Reading.{parted}
 
@@ -35,7 +35,7 @@ none_yet None = refl
 none_yet (Some files) = record { each = λ name. refl }
 
 pub one_more : (outputs : List Named) (o : Named) (old between new : Option Files) (done : Unit {0})
-    → AreWritten outputs old between → WriteTold between new o.name o.bytes (Ok done)
+    → AreWritten outputs old between → WriteSpec between new o.name o.bytes (Ok done)
     → AreWritten (outputs ++ o ∷ []) old new
 one_more outputs o None None new done first told = told
 one_more outputs o None (Some between) new done first told = cc
@@ -51,7 +51,7 @@ one_more outputs o (Some old) (Some between) (Some new) done first told =
 
 -- want of memory leaves the files that there are
 kept_told : (outputs : List Named) (old between new : Option Files) (name bytes : List ℕ)
-    → AreWritten outputs old between → WriteTold between new name bytes (Err Memory)
+    → AreWritten outputs old between → WriteSpec between new name bytes (Err Memory)
     → AreWritten outputs old new
 kept_told outputs old None None name bytes whole told = whole
 kept_told outputs old None (Some new) name bytes whole told = cc
@@ -63,7 +63,7 @@ pub next_written : (outputs : List Named) (output d : Named) (k : ℕ)
     (old between new : Option Files) (done : Unit {0}) → k < length outputs
     → output ≡ get_or outputs k d
     → AreWritten (take k outputs) old between
-    → WriteTold between new output.name output.bytes (Ok done)
+    → WriteSpec between new output.name output.bytes (Ok done)
     → AreWritten (take (k + 1) outputs) old new
 next_written outputs output d k old between new done within at first told =
     let more : take (k + 1) outputs ≡ take k outputs ++ output ∷ [] =
@@ -81,7 +81,7 @@ pub stops_with : (why : WriteRefused) (name : List ℕ) (outputs : List Named) (
     (k : ℕ) (old between new : Option Files) (faults calm risen : ℕ) → k < length outputs
     → output ≡ get_or outputs k d
     → name ≡ output.name → faults ≤ calm → AreWritten (take k outputs) old between
-    → WriteTold between new output.name output.bytes (Err why) → WriteCause (Err why) calm risen
+    → WriteSpec between new output.name output.bytes (Err why) → WriteCause (Err why) calm risen
     → calm ≤ risen → StopsWith why name outputs old new faults risen
 stops_with Failed name outputs output d k old between new faults calm risen within at named grown whole told cause behind = (
   record {

@@ -4,7 +4,7 @@ use Rattle.std.specs.Str.{bytes_eq}
 use Rattle.vw_io.specs.declared.shelves.WriteRefused.{WriteRefused}
 use Rattle.vw_io.specs.declared.shelves.WriteRefused.TheVariants.{Failed, Memory}
 use Rattle.vw_io.specs.Outside.{Files, Rose}
-use Rattle.vw_io.specs.Write.{WriteTold}
+use Rattle.vw_io.specs.Write.{WriteSpec}
 
 -- a name and the bytes that are written under it
 pub record Named : Type 0 where
@@ -44,7 +44,7 @@ pub record BreaksAt (name : List ℕ) (outputs : List Named) (old new : Option F
   pub parts : outputs ≡ first ++ output ∷ others
   pub between : Option Files
   pub whole : AreWritten first old between
-  pub left : WriteTold between new output.name output.bytes (Err Failed)
+  pub left : WriteSpec between new output.name output.bytes (Err Failed)
 
 -- what stands on the shelf where not all were written
 abbrev pub StopsWith : WriteRefused → List ℕ → List Named → Option Files → Option Files → ℕ → ℕ

@@ -17,11 +17,11 @@ PutLeaves before now bytes (Err Memory) = now ≡ before
 
 -- the same where the bytes may not be told: then nothing is claimed and they stay untold, and what
 -- is told stays told
-abbrev pub PutTold : Option (List ℕ) → Option (List ℕ) → List ℕ → Result (Unit {0}) PutRefused
+abbrev pub PutSpec : Option (List ℕ) → Option (List ℕ) → List ℕ → Result (Unit {0}) PutRefused
     → Type 0
-PutTold None now bytes result = now ≡ None
-PutTold (Some before) None bytes result = ⊥
-PutTold (Some before) (Some now) bytes result = PutLeaves before now bytes result
+PutSpec None now bytes result = now ≡ None
+PutSpec (Some before) None bytes result = ⊥
+PutSpec (Some before) (Some now) bytes result = PutLeaves before now bytes result
 
 -- what the count of faults, which never falls, did besides
 abbrev pub PutCause : Result (Unit {0}) PutRefused → ℕ → ℕ → Type 0

@@ -13,9 +13,9 @@ ReadFits files name limit (Err Failed) bytes = ⊤
 ReadFits files name limit (Err Memory) bytes = ⊤
 
 -- the same at an optional map: one that isn't told claims nothing
-abbrev pub ReadTold : Option Files → List ℕ → ℕ → Result (Unit {0}) ReadRefused → List ℕ → Type 0
-ReadTold None name limit result bytes = ⊤
-ReadTold (Some files) name limit result bytes = ReadFits files name limit result bytes
+abbrev pub ReadSpec : Option Files → List ℕ → ℕ → Result (Unit {0}) ReadRefused → List ℕ → Type 0
+ReadSpec None name limit result bytes = ⊤
+ReadSpec (Some files) name limit result bytes = ReadFits files name limit result bytes
 
 -- what the count of faults, which never falls, did besides
 abbrev pub ReadCause : Result (Unit {0}) ReadRefused → ℕ → ℕ → Type 0

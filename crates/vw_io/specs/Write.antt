@@ -18,11 +18,11 @@ WriteLeaves before now name bytes (Err Memory) = now ≡ before
 
 -- the same at optional maps: one that isn't told claims nothing and stays untold, and one that is
 -- told stays told
-abbrev pub WriteTold : Option Files → Option Files → List ℕ → List ℕ
+abbrev pub WriteSpec : Option Files → Option Files → List ℕ → List ℕ
     → Result (Unit {0}) WriteRefused → Type 0
-WriteTold None now name bytes result = now ≡ None
-WriteTold (Some before) None name bytes result = ⊥
-WriteTold (Some before) (Some now) name bytes result = WriteLeaves before now name bytes result
+WriteSpec None now name bytes result = now ≡ None
+WriteSpec (Some before) None name bytes result = ⊥
+WriteSpec (Some before) (Some now) name bytes result = WriteLeaves before now name bytes result
 
 -- what the count of faults, which never falls, did besides
 abbrev pub WriteCause : Result (Unit {0}) WriteRefused → ℕ → ℕ → Type 0

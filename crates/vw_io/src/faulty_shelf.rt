@@ -2,8 +2,8 @@
 ghost use Rattle.std.specs.Prelude.{◌≡◌, ◌≤◌, [], Some, Option, length, OnOk, OnErr};
 ghost use Rattle.vw_io.specs.Faulty.{next_call, passing, FailsRead, FailsWrite, CountsRead, CountsWrite};
 ghost use Rattle.vw_io.specs.Memory.{files_of};
-ghost use Rattle.vw_io.specs.Read.{ReadTold, ReadCause};
-ghost use Rattle.vw_io.specs.Write.{WriteTold, WriteCause};
+ghost use Rattle.vw_io.specs.Read.{ReadSpec, ReadCause};
+ghost use Rattle.vw_io.specs.Write.{WriteSpec, WriteCause};
 
 use crate::faults::{answer_read, count_write};
 use crate::memory_shelf::MemoryShelf;
@@ -53,7 +53,7 @@ impl Shelf for FaultyShelf {
         { files = Some (files_of shelf.inner); faults = shelf.faults } };
 
     fn read(&mut self, name: &str, limit: u64, into: &mut Vec<u8>) -> Result<(), ReadRefused>
-        ensures told { ReadTold
+        ensures told { ReadSpec
             (Some (files_of self.old.inner)) name.now limit result into.new.items }
         ensures within { OnOk result (length into.new.items ≤ limit) }
         ensures empty { OnErr result (into.new.items ≡ []) }
@@ -81,7 +81,7 @@ impl Shelf for FaultyShelf {
     }
 
     fn write(&mut self, name: &str, bytes: &[u8]) -> Result<(), WriteRefused>
-        ensures told { WriteTold (Some (files_of self.old.inner)) (Some (files_of self.new.inner))
+        ensures told { WriteSpec (Some (files_of self.old.inner)) (Some (files_of self.new.inner))
             name.now bytes.now result }
         ensures cause { WriteCause result self.old.faults self.new.faults }
         ensures never_falls { self.old.faults ≤ self.new.faults }

@@ -1,7 +1,7 @@
 //! A sink in memory whose puts fail as they are told to.
 ghost use Rattle.std.specs.Prelude.{◌≡◌, ◌≤◌, [], Some, Option};
 ghost use Rattle.vw_io.specs.Faulty.{next_call, passing, FailsPut, CountsPut};
-ghost use Rattle.vw_io.specs.Put.{PutTold, PutCause};
+ghost use Rattle.vw_io.specs.Put.{PutSpec, PutCause};
 
 use crate::faults::count_put;
 use crate::faulty_shelf::passing;
@@ -46,7 +46,7 @@ impl Sink for FaultySink {
     ghost state = { λ sink. record { told = Some sink.sent.items; faults = sink.faults } };
 
     fn put(&mut self, bytes: &[u8]) -> Result<(), PutRefused>
-        ensures told { PutTold (Some self.old.sent.items)
+        ensures told { PutSpec (Some self.old.sent.items)
             (Some self.new.sent.items) bytes.now result }
         ensures cause { PutCause result self.old.faults self.new.faults }
         ensures never_falls { self.old.faults ≤ self.new.faults }

@@ -1,9 +1,9 @@
 //! The files of the system as a shelf.
 ghost use Rattle.std.specs.Prelude.{◌≡◌, ◌≤◌, [], None, length, OnOk, OnErr};
 ghost use Rattle.vw_io.specs.Faulty.{CountsRead, CountsWrite};
-ghost use Rattle.vw_io.specs.Read.{ReadTold, ReadCause};
+ghost use Rattle.vw_io.specs.Read.{ReadSpec, ReadCause};
 ghost use Rattle.vw_io.specs.System.{no_files};
-ghost use Rattle.vw_io.specs.Write.{WriteTold, WriteCause};
+ghost use Rattle.vw_io.specs.Write.{WriteSpec, WriteCause};
 
 use crate::faults::{answer_read, count_write};
 use crate::files::{read_file, write_file};
@@ -41,7 +41,7 @@ impl<R: Files + Drop> Shelf for FileShelf<R> {
     ghost state = { λ shelf. record { files = None; faults = shelf.faults } };
 
     fn read(&mut self, name: &str, limit: u64, into: &mut Vec<u8>) -> Result<(), ReadRefused>
-        ensures told { ReadTold no_files name.now limit result into.new.items }
+        ensures told { ReadSpec no_files name.now limit result into.new.items }
         ensures within { OnOk result (length into.new.items ≤ limit) }
         ensures empty { OnErr result (into.new.items ≡ []) }
         ensures unchanged { no_files ≡ no_files }
@@ -60,7 +60,7 @@ impl<R: Files + Drop> Shelf for FileShelf<R> {
     }
 
     fn write(&mut self, name: &str, bytes: &[u8]) -> Result<(), WriteRefused>
-        ensures told { WriteTold no_files no_files name.now bytes.now result }
+        ensures told { WriteSpec no_files no_files name.now bytes.now result }
         ensures cause { WriteCause result self.old.faults self.new.faults }
         ensures never_falls { self.old.faults ≤ self.new.faults }
 

@@ -79,15 +79,15 @@ impl<T: Drop> From<AllocFailed<T>> for WriteRefused {
 /// `Failed`.
 pub trait Shelf {
     ghost use Rattle.vw_io.specs.Outside.{ShelfState};
-    ghost use Rattle.vw_io.specs.Read.{ReadTold, ReadCause};
-    ghost use Rattle.vw_io.specs.Write.{WriteTold, WriteCause};
+    ghost use Rattle.vw_io.specs.Read.{ReadSpec, ReadCause};
+    ghost use Rattle.vw_io.specs.Write.{WriteSpec, WriteCause};
 
     /// The files, where the shelf tells them, and how often it has failed.
     ghost state: { Self → ShelfState };
 
     /// Reads a whole file, of at most `limit` bytes, in place of what `into` had.
     fn read(&mut self, name: &str, limit: u64, into: &mut Vec<u8>) -> Result<(), ReadRefused>
-        ensures told { ReadTold (state self.old).files name.now limit result into.new.items }
+        ensures told { ReadSpec (state self.old).files name.now limit result into.new.items }
         ensures within { OnOk result (length into.new.items ≤ limit) }
         ensures empty { OnErr result (into.new.items ≡ []) }
         ensures unchanged { (state self.new).files ≡ (state self.old).files }
@@ -98,7 +98,7 @@ pub trait Shelf {
     /// Makes `bytes` the whole file of that name. After `Failed` the file may hold some first bytes
     /// of these, or what it held.
     fn write(&mut self, name: &str, bytes: &[u8]) -> Result<(), WriteRefused>
-        ensures told { WriteTold (state self.old).files
+        ensures told { WriteSpec (state self.old).files
             (state self.new).files name.now bytes.now result }
 
         ensures cause { WriteCause result (state self.old).faults (state self.new).faults }

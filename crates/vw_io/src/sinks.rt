@@ -28,14 +28,14 @@ impl From<AllocError> for PutRefused {
 /// never falls, and rises where a call answers `Failed`; an `Ok` and `Memory` say nothing of it.
 pub trait Sink {
     ghost use Rattle.vw_io.specs.Outside.{SinkState};
-    ghost use Rattle.vw_io.specs.Put.{PutTold, PutCause};
+    ghost use Rattle.vw_io.specs.Put.{PutSpec, PutCause};
 
     /// The bytes put so far, where the sink tells them, and how often it has failed.
     ghost state: { Self → SinkState };
 
     /// Appends `bytes`. After `Failed` only some first bytes of these may have gone out.
     fn put(&mut self, bytes: &[u8]) -> Result<(), PutRefused>
-        ensures told { PutTold (state self.old).told (state self.new).told bytes.now result }
+        ensures told { PutSpec (state self.old).told (state self.new).told bytes.now result }
 
         ensures cause { PutCause result (state self.old).faults (state self.new).faults }
         ensures never_falls { (state self.old).faults ≤ (state self.new).faults };

@@ -1,7 +1,7 @@
 //! Standard output as a sink.
 ghost use Rattle.std.specs.Prelude.{◌≡◌, ◌≤◌, None};
 ghost use Rattle.vw_io.specs.Faulty.{CountsPut};
-ghost use Rattle.vw_io.specs.Put.{PutTold, PutCause};
+ghost use Rattle.vw_io.specs.Put.{PutSpec, PutCause};
 ghost use Rattle.vw_io.specs.System.{no_bytes};
 
 use crate::faults::count_put;
@@ -39,7 +39,7 @@ impl<R: Print + Drop> Sink for StdSink<R> {
     ghost state = { λ sink. record { told = None; faults = sink.faults } };
 
     fn put(&mut self, bytes: &[u8]) -> Result<(), PutRefused>
-        ensures told { PutTold no_bytes no_bytes bytes.now result }
+        ensures told { PutSpec no_bytes no_bytes bytes.now result }
         ensures cause { PutCause result self.old.faults self.new.faults }
         ensures never_falls { self.old.faults ≤ self.new.faults }
 

@@ -9,7 +9,7 @@ use Rattle.node_words.specs.declared.keys.Key.TheVariants.{Leaf, Node}
 use Rattle.node_words.specs.Keys.{bucket_of_key}
 use Rattle.node_words.proofs.PlanLaws.{some_buckets}
 use Rattle.core_laws.specs.places.Names.{IsName, named}
-use Rattle.core_laws.specs.places.Spots.{levels, buckets_at}
+use Rattle.core_laws.specs.places.WordIds.{levels, buckets_at}
 use Rattle.bucket_core.specs.declared.counted.Entry.{Entry}
 use Rattle.bucket_core.specs.Buckets.{book_of_slot, HasKey, HasNone, IsFirstFree, IsFirstWith}
 use Rattle.core_laws.specs.Counting.{children_weight}

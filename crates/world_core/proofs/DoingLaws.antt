@@ -1,7 +1,7 @@
 -- What was done to the lists is what the event asks for.
 use Rattle.std.proofs.Common.{◌≡◌, ◌≢◌, ℕ, ◌<◌, ◌≤◌, sym, ◌∙◌, arith, Some, Option, length}
 use Rattle.node_words.specs.declared.shapes.names.Name.{Name}
-use Rattle.core_laws.specs.places.Spots.{versions}
+use Rattle.core_laws.specs.places.WordIds.{versions}
 use Rattle.history_model.specs.declared.acts.Act.{Act}
 use Rattle.core_laws.specs.LogEvents.{MayAppend}
 use Rattle.core_laws.specs.States.{IsLive}

@@ -8,7 +8,7 @@ use Rattle.std.proofs.lemmas.List.Sums.{sum_by-cons}
 use Rattle.std.proofs.lemmas.Nat.{mul-le}
 use Rattle.node_words.specs.declared.shapes.names.Name.{Name}
 use Rattle.node_words.proofs.PlanLaws.{few_buckets}
-use Rattle.core_laws.specs.places.Spots.{levels, versions}
+use Rattle.core_laws.specs.places.WordIds.{levels, versions}
 use Rattle.history_model.specs.Logs.{Log}
 use Rattle.bucket_core.specs.Buckets.{book_of_slot}
 use Rattle.core_laws.specs.Counting.{weight, holdings}

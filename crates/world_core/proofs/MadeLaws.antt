@@ -25,7 +25,7 @@ use Rattle.history_model.proofs.Agreeing.{edited_agree}
 use Rattle.history_model.specs.Positions.{position_after, first_of}
 use Rattle.history_model.specs.Worlds.{World, is_edit}
 use Rattle.core_laws.specs.contents.Aligned.{top, world_block}
-use Rattle.core_laws.specs.contents.Versions.{IsKept}
+use Rattle.core_laws.specs.contents.Versions.{HoldsVersion}
 use Rattle.core_laws.proofs.OfContents.WorldBlocks.{in_world, in_block}
 use Rattle.core_laws.specs.States.{IsLive, tree_at}
 use Rattle.core_laws.proofs.Lives.{root_lives}
@@ -59,7 +59,7 @@ own_cell side key root cells q low shows inside =
     ∙ shows.each q (in_block side q low inside)
 
 -- the newest version is kept
-pub head_kept : (s : Stored) → IsStored s → IsKept s.log (length s.log.records)
+pub head_kept : (s : Stored) → IsStored s → HoldsVersion s.log (length s.log.records)
 head_kept s is = record {
   there = omega arith;
   unmarked = λ k m lt same. (let dates = is.sound.versions.legal.marked k m lt in
@@ -111,7 +111,7 @@ module _ (s : Stored) (act : Act) (root : Option Name) (is : IsStored s) where
   }
 
   -- an undo or a redo makes the root of the version that it goes to
-  pub other_made : (v : ℕ) → is_edit act ≡ false → IsKept s.log v
+  pub other_made : (v : ℕ) → is_edit act ≡ false → HoldsVersion s.log v
       → Rattle.history_model.specs.Logs.MayFollow s.log.marks (length s.log.records + 1) act
       (position_after s.log.records)
       → Rattle.core_laws.specs.Making.version_gone_to s.log.records act ≡ v
@@ -135,7 +135,7 @@ module _ (s : Stored) (act : Act) (root : Option Name) (is : IsStored s) where
     };
   }
 
-  pub made_other : (v : ℕ) → is_edit act ≡ false → IsKept s.log v
+  pub made_other : (v : ℕ) → is_edit act ≡ false → HoldsVersion s.log v
       → Rattle.core_laws.specs.Making.version_gone_to s.log.records act ≡ v
       → ((n : Name) → root ≡ Some n → IsLive s.plan (stored_state s) n
       × (n.level ≡ top s.plan.side))

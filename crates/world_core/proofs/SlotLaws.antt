@@ -7,7 +7,7 @@ use Rattle.node_words.proofs.OfShapes.TreeEqual.{same_name}
 use Rattle.core_laws.specs.Key.{Key}
 use Rattle.core_laws.specs.Keys.{bucket_of_key}
 use Rattle.core_laws.specs.Plans.{Layout}
-use Rattle.core_laws.specs.places.Spots.{levels, buckets_at}
+use Rattle.core_laws.specs.places.WordIds.{levels, buckets_at}
 use Rattle.core_laws.specs.Logs.{Log}
 use Rattle.core_laws.specs.places.Names.{IsName}
 use Rattle.core_laws.specs.States.{IsLive}

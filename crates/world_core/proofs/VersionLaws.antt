@@ -7,7 +7,7 @@ use Rattle.node_words.specs.declared.shapes.names.Name.{Name}
 use Rattle.history_model.specs.declared.histories.Record.{Record}
 use Rattle.history_model.specs.declared.histories.Mark.{Mark}
 use Rattle.history_model.specs.Logs.{Log}
-use Rattle.core_laws.specs.contents.Versions.{IsUnmarked, MarkComes}
+use Rattle.core_laws.specs.contents.Versions.{IsUnmarked, InsertsMark}
 use Rattle.core_laws.specs.Counting.{weight}
 use Rattle.core_laws.specs.Events.{no_weight, at_most_one, PutsRoot, TakesRoot}
 use Rattle.core_laws.specs.LogEvents.{MayAppend, Appends, Forgets, appends, forgets}
@@ -103,7 +103,7 @@ mark_comes : (marks : List Mark) (mark : Mark) (place : ℕ) → place ≤ lengt
     → AllPairs (λ a b. a.version < b.version) marks → IsUnmarked marks mark.version
     → ((k : ℕ) (m : Mark) → k < place → (get_or marks k m).version ≤ mark.version)
     → ((m : Mark) → place < length marks → mark.version < (get_or marks place m).version)
-    → MarkComes marks mark (take place marks ++ mark ∷ drop place marks)
+    → InsertsMark marks mark (take place marks ++ mark ∷ drop place marks)
 mark_comes marks mark place le rising unmarked lower higher = record {
   before = take place marks;
   after = drop place marks;

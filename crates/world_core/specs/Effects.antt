@@ -6,7 +6,7 @@ use Rattle.node_words.specs.declared.shares.Full.{Full}
 use Rattle.node_words.specs.Keys.{bucket_of_key}
 use Rattle.node_words.specs.Plans.{Layout}
 use Rattle.core_laws.specs.places.Names.{named}
-use Rattle.core_laws.specs.places.Spots.{buckets_at}
+use Rattle.core_laws.specs.places.WordIds.{buckets_at}
 use Rattle.core_laws.specs.States.{State}
 use Rattle.core_laws.specs.Soundness.{IsFull}
 use Rattle.core_laws.specs.Events.{IsMissing, Raises, Adds}

@@ -7,7 +7,7 @@ use Rattle.node_words.specs.shapes.Shape.{ShowsCells}
 use Rattle.node_words.specs.shapes.Tree.{shape_of}
 use Rattle.node_words.specs.declared.keys.Key as keys
 use Rattle.node_words.specs.Plans.{Layout}
-use Rattle.core_laws.specs.places.Spots.{levels}
+use Rattle.core_laws.specs.places.WordIds.{levels}
 use Rattle.history_model.specs.declared.acts.Act.{Act}
 use Rattle.history_model.specs.Logs.{FitsWorld, MayFollow}
 use Rattle.history_model.specs.Positions.{position_after}

@@ -5,7 +5,7 @@ use Rattle.core_laws.specs.Key.{Key}
 use Rattle.core_laws.specs.Keys.{bucket_of_key}
 use Rattle.core_laws.specs.Plans.{Layout}
 use Rattle.core_laws.specs.places.Names.{IsName}
-use Rattle.core_laws.specs.places.Spots.{buckets_at}
+use Rattle.core_laws.specs.places.WordIds.{buckets_at}
 use Rattle.bucket_core.specs.declared.counted.Entry.{Entry}
 use Rattle.core_laws.specs.Logs.{Log}
 use Rattle.core_laws.specs.Soundness.{FitsLevel}

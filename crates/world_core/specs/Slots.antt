@@ -4,7 +4,7 @@ use Rattle.node_words.specs.declared.shapes.names.Name.{Name}
 use Rattle.core_laws.specs.Key.{Key}
 use Rattle.core_laws.specs.TheVariants.{Leaf}
 use Rattle.core_laws.specs.Plans.{Layout}
-use Rattle.core_laws.specs.places.Spots.{levels, buckets_at}
+use Rattle.core_laws.specs.places.WordIds.{levels, buckets_at}
 use Rattle.bucket_core.specs.declared.counted.Entry.{Entry}
 use Rattle.bucket_core.specs.Buckets.{book_of_slot}
 use Rattle.core_laws.specs.Logs.{Log}

@@ -3,7 +3,7 @@ use Rattle.std.specs.Prelude.{◌≡◌, ℕ, ◌≤◌, Option, None, List, len
 use Rattle.vox_read.specs.Contents.{Content}
 use Rattle.node_words.specs.declared.shapes.names.Name.{Name}
 use Rattle.node_words.specs.Plans.{Layout, IsPlan}
-use Rattle.core_laws.specs.places.Spots.{versions}
+use Rattle.core_laws.specs.places.WordIds.{versions}
 use Rattle.history_model.specs.Logs.{Log}
 use Rattle.core_laws.specs.States.{State}
 use Rattle.core_laws.specs.Soundness.{Sound}

@@ -2,7 +2,7 @@ ghost use Rattle.std.specs.Prelude.{◌≡◌, ◌<◌, ◌≤◌, ◌+◌, ◌^
 ghost use Rattle.std.specs.Prelude.{slice_index_or};
 ghost use Rattle.node_words.specs.declared.shapes.names.Name.{Name as name};
 ghost use Rattle.core_laws.specs.places.Names.{named};
-ghost use Rattle.core_laws.specs.places.Spots.{buckets_at, levels};
+ghost use Rattle.core_laws.specs.places.WordIds.{buckets_at, levels};
 ghost use Rattle.bucket_core.specs.Buckets.{AreInUse, HasNone, IsFirstFree, IsFirstWith};
 ghost use Rattle.bucket_core.specs.Buckets.{book_of_slot, key_of_slot, with_book};
 ghost use Rattle.world_core.specs.Slots.{IsLaidOut, bucket_at, entry_at, put_at};

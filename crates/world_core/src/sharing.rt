@@ -1,6 +1,6 @@
 ghost use Rattle.std.specs.Prelude.{◌≡◌, ◌<◌, ◌≤◌, ◌+◌, ℕ, [], ◌∷◌, Some, None, IfOk, OnErr, OnOk, MatchOption};
 ghost use Rattle.node_words.specs.declared.shapes.names.Name.{Name as name};
-ghost use Rattle.core_laws.specs.places.Spots.{levels};
+ghost use Rattle.core_laws.specs.places.WordIds.{levels};
 ghost use Rattle.core_laws.specs.Counting.{children_weight};
 ghost use Rattle.core_laws.specs.Soundness.{FitsLevel};
 ghost use Rattle.core_laws.specs.States.{IsLive};
@@ -173,5 +173,5 @@ impl Parts<'_> {
     }
 }
 
-ghost use Rattle.core_laws.specs.places.Spots.{buckets_at};
+ghost use Rattle.core_laws.specs.places.WordIds.{buckets_at};
 ghost use Rattle.node_words.specs.Keys.{bucket_of_key};

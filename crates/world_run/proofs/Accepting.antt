@@ -4,7 +4,7 @@ use Rattle.std.specs.Prelude.{All, Bool}
 use Rattle.std.proofs.lemmas.List.{take_all, take_more}
 use Rattle.std.proofs.lemmas.List.Elements.{All-append, All-cons, All-head, All-nil, All-tail}
 use Rattle.vox_read.specs.Contents.{Content}
-use Rattle.history_model.specs.Logs.{kept_side}
+use Rattle.history_model.specs.Logs.{side_of_world}
 use Rattle.script.specs.declared.commands.Command.{Command}
 use Rattle.script.specs.declared.commands.Command.TheVariants.{Save}
 use Rattle.script.specs.declared.commands.ScriptLine.{ScriptLine}
@@ -35,25 +35,25 @@ few_accepted (l ∷ lines) (a ∷ answers) =
 
 module _ (tint : Bool) (side : ℕ) (models : List Content) where
   one_fits : (command : Command) (n : ℕ) (answer : Answer) → CommandFits tint side models command
-      → All (λ (b : SavedBox). SaveFits (kept_side tint side) b.name b.part)
+      → All (λ (b : SavedBox). SaveFits (side_of_world tint side) b.name b.part)
       (saved_by command n answer)
   one_fits (Save version name part) n (answers.Saved cells) fits = All-cons
-      (λ (b : SavedBox). SaveFits (kept_side tint side) b.name b.part) _ [] fits
-      (All-nil (λ (b : SavedBox). SaveFits (kept_side tint side) b.name b.part))
+      (λ (b : SavedBox). SaveFits (side_of_world tint side) b.name b.part) _ [] fits
+      (All-nil (λ (b : SavedBox). SaveFits (side_of_world tint side) b.name b.part))
   one_fits _ n answer fits = All-nil
-      (λ (b : SavedBox). SaveFits (kept_side tint side) b.name b.part)
+      (λ (b : SavedBox). SaveFits (side_of_world tint side) b.name b.part)
 
   -- a file can be made of each
   pub saves_fit : (lines : List ScriptLine) (answers : List LineAnswer)
       → All (λ l. CommandFits tint side models l.command) lines
-      → All (λ (b : SavedBox). SaveFits (kept_side tint side) b.name b.part)
+      → All (λ (b : SavedBox). SaveFits (side_of_world tint side) b.name b.part)
       (saved_in lines answers)
   saves_fit [] answers fits = All-nil
-      (λ (b : SavedBox). SaveFits (kept_side tint side) b.name b.part)
+      (λ (b : SavedBox). SaveFits (side_of_world tint side) b.name b.part)
   saves_fit (l ∷ lines) [] fits = All-nil
-      (λ (b : SavedBox). SaveFits (kept_side tint side) b.name b.part)
+      (λ (b : SavedBox). SaveFits (side_of_world tint side) b.name b.part)
   saves_fit (l ∷ lines) (a ∷ answers) fits =
-      All-append (λ (b : SavedBox). SaveFits (kept_side tint side) b.name b.part)
+      All-append (λ (b : SavedBox). SaveFits (side_of_world tint side) b.name b.part)
       (saved_by l.command a.at a.answer)
       (saved_in lines answers)
       (one_fits l.command a.at a.answer

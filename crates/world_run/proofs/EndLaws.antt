@@ -6,27 +6,27 @@ use Rattle.std.proofs.lemmas.List.Elements.{All-head}
 use Rattle.vox_read.specs.Contents.{Content}
 use Rattle.history_model.specs.Logs.{Log, IsLegal}
 use Rattle.node_words.specs.declared.shapes.names.Name.{Name}
-use Rattle.core_laws.specs.places.Spots.{levels}
+use Rattle.core_laws.specs.places.WordIds.{levels}
 use Rattle.core_laws.specs.contents.Aligned.{top}
 use Rattle.report.proofs.RootLaws.{log_side}
 use Rattle.report.specs.Numbers.{AreNumbers}
-use Rattle.report.specs.Roots.{RootsTellWorlds, listed_root}
+use Rattle.report.specs.Roots.{RootsNameWorlds, listed_root}
 use Rattle.node_table.specs.Closing.{EndsTable}
-use Rattle.node_table.specs.Seen.{TableSeen, PassSeen}
+use Rattle.node_table.specs.TableStates.{TableState, PassState}
 use Rattle.node_table.specs.declared.closed.Closed.{Closed}
 use Rattle.node_words.specs.Plans.{Layout}
 use Rattle.conformance.specs.sessions.Ran.{ClosesWorld}
-use Rattle.conformance.specs.sessions.Seen.{SessionSeen}
-use Rattle.session.specs.Closes.{HadHistory, sessions_seen}
-use Rattle.session.specs.Seen.{session_seen}
+use Rattle.conformance.specs.sessions.SessionViews.{SessionView}
+use Rattle.session.specs.Closes.{HadHistory, session_views}
+use Rattle.session.specs.SessionWorlds.{session_view}
 use Rattle.world_run.specs.declared.open_runs.SavedSession.{SavedSession}
 use Rattle.world_run.specs.Open.{saved_seen}
 use Rattle.world_run.specs.declared.endings.WorldRan.{WorldRan}
 use Rattle.world_run.specs.Ends.{IsEndOf}
-use Rattle.world_run.specs.Told.{told_root}
+use Rattle.world_run.specs.ListedRoots.{root_in_list}
 use Rattle.world_run.proofs.Telling.{closed_tells}
 
-module _ (t : TableSeen) (closed : Closed) (low : 2 ≤ t.plan.side) (high : t.plan.side ≤ 12)
+module _ (t : TableState) (closed : Closed) (low : 2 ≤ t.plan.side) (high : t.plan.side ≤ 12)
     (ends : EndsTable t closed) where
   legal : IsLegal (2 ^ t.plan.side) t.models closed.history
   legal = subst (λ (log : Log). IsLegal (2 ^ t.plan.side) t.models log)
@@ -36,11 +36,11 @@ module _ (t : TableSeen) (closed : Closed) (low : 2 ≤ t.plan.side) (high : t.p
   side_is = log_side t.plan t.models closed.history legal
 
   pub roots_tell : (roots : List (Option Name))
-      → ((v : ℕ) → listed_root roots v ≡ told_root closed.roots.items v)
-      → RootsTellWorlds t.models closed.history (listed_root roots)
+      → ((v : ℕ) → listed_root roots v ≡ root_in_list closed.roots.items v)
+      → RootsNameWorlds t.models closed.history (listed_root roots)
   roots_tell roots told =
-      let same : told_root closed.roots.items ≡ listed_root roots = λ i v. sym (told v) i in
-      subst (λ (root : ℕ → Option Name). RootsTellWorlds t.models closed.history root) same
+      let same : root_in_list closed.roots.items ≡ listed_root roots = λ i v. sym (told v) i in
+      subst (λ (root : ℕ → Option Name). RootsNameWorlds t.models closed.history root) same
       (closed_tells t closed low high ends).roots_tell
 
   pub numbers_are : (numbers : List ℕ) (n : ℕ) → n ≡ t.plan.side - 2
@@ -71,18 +71,18 @@ module _ (t : TableSeen) (closed : Closed) (low : 2 ≤ t.plan.side) (high : t.p
 
 -- ---- sessions that are given up, or come to the end
 
-pub seen_more : (spare more : List PassSeen) (session : PassSeen) (all left : List SavedSession)
-    (saved : SavedSession) (whole : List SessionSeen) → more ≡ spare ++ session ∷ []
+pub seen_more : (spare more : List PassState) (session : PassState) (all left : List SavedSession)
+    (saved : SavedSession) (whole : List SessionView) → more ≡ spare ++ session ∷ []
     → all ≡ saved ∷ left
-    → session_seen session.view ≡ session_seen saved.session.view
-    → sessions_seen spare ++ saved_seen all ≡ whole → sessions_seen more ++ saved_seen left ≡ whole
+    → session_view session.view ≡ session_view saved.session.view
+    → session_views spare ++ saved_seen all ≡ whole → session_views more ++ saved_seen left ≡ whole
 seen_more spare more session all left saved whole pushed is same so_far =
-    ap (λ (ss : List PassSeen). sessions_seen ss ++ saved_seen left) pushed
-    ∙ ap (λ (zs : List SessionSeen). zs ++ saved_seen left)
-    (map_push (λ (s : PassSeen). session_seen s.view) spare session)
-    ∙ append_assoc (sessions_seen spare) (session_seen session.view ∷ []) (saved_seen left)
-    ∙ ap (λ (z : SessionSeen). sessions_seen spare ++ z ∷ saved_seen left) same
-    ∙ ap (λ (ss : List SavedSession). sessions_seen spare ++ saved_seen ss) (sym is)
+    ap (λ (ss : List PassState). session_views ss ++ saved_seen left) pushed
+    ∙ ap (λ (zs : List SessionView). zs ++ saved_seen left)
+    (map_push (λ (s : PassState). session_view s.view) spare session)
+    ∙ append_assoc (session_views spare) (session_view session.view ∷ []) (saved_seen left)
+    ∙ ap (λ (z : SessionView). session_views spare ++ z ∷ saved_seen left) same
+    ∙ ap (λ (ss : List SavedSession). session_views spare ++ saved_seen ss) (sym is)
     ∙ so_far
 
 -- ---- lists whose first item is taken
@@ -91,7 +91,7 @@ pub first_of : {X : Type 0} (P : X → Type 0) (x : X) (xs ys : List X) → ys �
 first_of {X} P x xs ys is all = All-head P x xs (subst (λ (zs : List X). All P zs) is all)
 
 -- a world that was closed, but of which there was no memory to tell, had that history
-pub ran_or_had : {E : Type 0} (p : Layout) (models : List Content) (tint : Bool) (sessions : List SessionSeen)
+pub ran_or_had : {E : Type 0} (p : Layout) (models : List Content) (tint : Bool) (sessions : List SessionView)
     (log : Log) → ClosesWorld tint p models sessions log → (result : Result WorldRan E)
     → IfErr result (λ _. HadHistory tint p models sessions)
 ran_or_had p models tint sessions log closes (Ok r) = tt
@@ -99,7 +99,7 @@ ran_or_had p models tint sessions log closes (Err e) = record { log = log; close
 
 -- ---- what a run tells whose world was closed
 
-module _ {E : Type 0} (t : TableSeen) (closed : Closed) (low : 2 ≤ t.plan.side)
+module _ {E : Type 0} (t : TableState) (closed : Closed) (low : 2 ≤ t.plan.side)
     (high : t.plan.side ≤ 12) (ends : EndsTable t closed) where
   pub ran_ends : (tint : Bool) → closed.history.coloured ≡ tint → (result : Result WorldRan E)
       → IfOk result (λ r. r.ended ≡ closed)
@@ -110,10 +110,10 @@ module _ {E : Type 0} (t : TableSeen) (closed : Closed) (low : 2 ≤ t.plan.side
   ran_ends tint coloured (Err e) same = tt
 
   pub ran_roots : (result : Result WorldRan E) → IfOk result (λ r. r.ended ≡ closed)
-      → IfOk result (λ r. (v : ℕ) → listed_root r.roots.items v ≡ told_root closed.roots.items v)
-      → IfOk result (λ r. RootsTellWorlds t.models r.ended.history (listed_root r.roots.items))
+      → IfOk result (λ r. (v : ℕ) → listed_root r.roots.items v ≡ root_in_list closed.roots.items v)
+      → IfOk result (λ r. RootsNameWorlds t.models r.ended.history (listed_root r.roots.items))
   ran_roots (Ok r) same told = subst
-      (λ (c : Closed). RootsTellWorlds t.models c.history (listed_root r.roots.items)) (sym same)
+      (λ (c : Closed). RootsNameWorlds t.models c.history (listed_root r.roots.items)) (sym same)
       (roots_tell t closed low high ends r.roots.items told)
   ran_roots (Err e) same told = tt
 

@@ -8,50 +8,50 @@ use Rattle.std.proofs.lemmas.List.{take_all}
 use Rattle.history_model.specs.Contents.{Content}
 use Rattle.history_model.specs.Logs.{Log}
 use Rattle.node_words.specs.declared.shapes.names.Name.{Name}
-use Rattle.core_laws.specs.places.Spots.{levels}
+use Rattle.core_laws.specs.places.WordIds.{levels}
 use Rattle.core_laws.specs.contents.Aligned.{top}
-use Rattle.core_laws.specs.contents.Versions.{IsKept}
+use Rattle.core_laws.specs.contents.Versions.{HoldsVersion}
 use Rattle.node_table.specs.States.{State}
 use Rattle.report.specs.Numbers.{AreNumbers}
-use Rattle.report.specs.Roots.{RootsTellWorlds}
+use Rattle.report.specs.Roots.{RootsNameWorlds}
 use Rattle.report.proofs.NumberLaws.{numbers_told}
 use Rattle.report.proofs.RootLaws.{sound_roots}
 use Rattle.node_table.specs.Closing.{EndsTable}
-use Rattle.node_table.specs.Seen.{TableSeen}
+use Rattle.node_table.specs.TableStates.{TableState}
 use Rattle.node_table.specs.declared.closed.Closed.{Closed}
 use Rattle.node_table.specs.declared.closed.Root.{Root}
-use Rattle.world_run.specs.Told.{told_root}
+use Rattle.world_run.specs.ListedRoots.{root_in_list}
 
 -- the numbers of the world's own levels
-abbrev pub live_numbers : TableSeen → Closed → List ℕ
+abbrev pub live_numbers : TableState → Closed → List ℕ
 live_numbers t closed = take (levels t.plan) closed.live
 
 -- the roots of the history's versions tell which of them have the same cells, and the numbers of
 -- live nodes are those of its different contents
 pub record TellsHistory (models : List Content) (log : Log) (roots : List Root)
     (numbers : List ℕ) : Type 0 where
-  pub roots_tell : RootsTellWorlds models log (told_root roots)
+  pub roots_tell : RootsNameWorlds models log (root_in_list roots)
   pub are_numbers : AreNumbers models log numbers
 
 -- the root that is listed for a version
 found_here : (r : Root) (roots : List Root) (v : ℕ) → r.version ≡ v
-    → told_root (r ∷ roots) v ≡ r.name
+    → root_in_list (r ∷ roots) v ≡ r.name
 found_here r roots v e =
-    ap (λ (b : Bool). if b then r.name else told_root roots v) (eq-eqb r.version v e)
+    ap (λ (b : Bool). if b then r.name else root_in_list roots v) (eq-eqb r.version v e)
 
 bool_false : (b : Bool) → (b ≡ true → ⊥) → b ≡ false
 bool_false true h = absurd (h refl)
 bool_false false h = refl
 
 found_later : (r : Root) (roots : List Root) (v : ℕ) → r.version ≢ v
-    → told_root (r ∷ roots) v ≡ told_root roots v
+    → root_in_list (r ∷ roots) v ≡ root_in_list roots v
 found_later r roots v other =
-    ap (λ (b : Bool). if b then r.name else told_root roots v)
+    ap (λ (b : Bool). if b then r.name else root_in_list roots v)
     (bool_false (r.version == v) (λ e. other (eqb-true r.version v e)))
 
 named_root : (root : ℕ → Option Name) (roots : List Root) (v : ℕ)
     → All (λ r. r.name ≡ root r.version) roots → Contains (map (λ r. r.version) roots) v
-    → told_root roots v ≡ root v
+    → root_in_list roots v ≡ root v
 named_root root [] v named (k, lt, e) = absurd (omega arith)
 named_root root (r ∷ roots) v named listed = elim (cases_eq r.version v) [
   | inl same ↦ found_here r roots v same ∙ All-head (λ s. s.name ≡ root s.version) r roots named
@@ -71,8 +71,8 @@ named_root root (r ∷ roots) v named listed = elim (cases_eq r.version v) [
 
 -- roots that are the same for kept versions tell the same
 module _ (models : List Content) (log : Log) (root listed : ℕ → Option Name)
-    (same : (v : ℕ) → IsKept log v → listed v ≡ root v) where
-  tell_same : RootsTellWorlds models log root → RootsTellWorlds models log listed
+    (same : (v : ℕ) → HoldsVersion log v → listed v ≡ root v) where
+  tell_same : RootsNameWorlds models log root → RootsNameWorlds models log listed
   tell_same tells = record {
     no_cell = λ v kept e. tells.no_cell v kept (sym (same v kept) ∙ e);
     no_root = λ v kept none. same v kept ∙ tells.no_root v kept none;
@@ -97,15 +97,15 @@ number_taken [] (suc n) le = absurd (omega arith)
 number_taken (x ∷ live) zero le = refl
 number_taken (x ∷ live) (suc n) le = (let rest = number_taken live n (omega arith) in omega arith)
 
-pub closed_tells : (t : TableSeen) (closed : Closed) → 2 ≤ t.plan.side → t.plan.side ≤ 12
+pub closed_tells : (t : TableState) (closed : Closed) → 2 ≤ t.plan.side → t.plan.side ≤ 12
     → EndsTable t closed
     → TellsHistory t.models closed.history closed.roots.items (live_numbers t closed)
 closed_tells t closed low high ends =
     let state : State = ends.state in
-    let tells : RootsTellWorlds t.models state.log state.root =
+    let tells : RootsNameWorlds t.models state.log state.root =
     sound_roots t.plan t.models state low ends.sound in
-    let roots : RootsTellWorlds t.models state.log (told_root closed.roots.items) =
-    tell_same t.models state.log state.root (told_root closed.roots.items)
+    let roots : RootsNameWorlds t.models state.log (root_in_list closed.roots.items) =
+    tell_same t.models state.log state.root (root_in_list closed.roots.items)
     (λ v kept. named_root state.root closed.roots.items v ends.roots.named
     (ends.roots.all v kept)) tells
     in
@@ -119,7 +119,7 @@ closed_tells t closed low high ends =
     in
     record {
       roots_tell = subst
-          (λ (log : Log). RootsTellWorlds t.models log (told_root closed.roots.items))
+          (λ (log : Log). RootsNameWorlds t.models log (root_in_list closed.roots.items))
           (sym ends.history) roots;
       are_numbers = subst (λ (log : Log). AreNumbers t.models log (live_numbers t closed))
           (sym ends.history) numbers;

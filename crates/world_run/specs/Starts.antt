@@ -3,13 +3,13 @@ use Rattle.std.specs.Prelude.{◌≡◌, ◌≤◌, List, [], All, length, vec_c
 use Rattle.std.specs.List.{AllZip}
 use Rattle.script.specs.declared.commands.ScriptLine.{ScriptLine}
 use Rattle.node_table.specs.Begins.{AreNewPasses, terms_of}
-use Rattle.node_table.specs.Seen.{TableSeen}
+use Rattle.node_table.specs.TableStates.{TableState}
 use Rattle.session.specs.Resting.{IsAtRest}
 use Rattle.world_run.specs.declared.runs.Start.{Start}
 use Rattle.world_run.specs.Works.{IsRoomFor}
 
 -- one session and one room for each script, in their order, and room for what comes of all
-pub record StartsScripts (w : TableSeen) (scripts : List (List ScriptLine))
+pub record StartsScripts (w : TableState) (scripts : List (List ScriptLine))
     (s : Start) : Type 0 where
   pub new : AreNewPasses w.id (terms_of w) s.sessions.items
   pub rest : All (IsAtRest w) s.sessions.items

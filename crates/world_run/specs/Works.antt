@@ -6,11 +6,11 @@ use Rattle.conformance.specs.Saves.{saved_in}
 use Rattle.conformance.specs.sessions.Ran.{SessionRan}
 use Rattle.conformance.specs.sessions.Runs.{RunsScript}
 use Rattle.conformance.specs.sessions.Saves.{saves_asked_in, versions_of}
-use Rattle.conformance.specs.sessions.Seen.{none_noted}
+use Rattle.conformance.specs.sessions.SessionViews.{none_noted}
 use Rattle.session.specs.Resting.{IsAtRest}
 use Rattle.session.specs.Saves.{SeatHoldsMore, SeatHoldsPins, pinned_versions}
 use Rattle.session.specs.Scripts.{IsFresh}
-use Rattle.session.specs.Seen.{AreLinesOfWorld, WorldSeen, of_world, session_seen}
+use Rattle.session.specs.SessionWorlds.{AreLinesOfWorld, SessionWorld, of_world, session_view}
 use Rattle.world_run.specs.declared.rooms.ScriptRoom.{ScriptRoom}
 use Rattle.world_run.specs.declared.works.SessionWork.{SessionWork}
 
@@ -42,26 +42,26 @@ pub record Worked (old new : SessionWork) : Type 0 where
   pub rest : IsAtRest old.world.now.table new.session
   pub ran : (number : ℕ) → old.session.view.numbers ≡ number ∷ [] → RunsScript
       (of_world old.world.now number) old.script.now old.room.answers.items
-      new.room.answers.items (session_seen old.session.view) (session_seen new.session.view)
+      new.room.answers.items (session_view old.session.view) (session_view new.session.view)
       (pinned_versions old.room.pins.items) (pinned_versions new.room.pins.items)
   pub holds : SeatHoldsMore old.world.now.table new.session.view old.room.pins.items
       new.room.pins.items
 
 -- the work is that of the session of this number in this world, and of this script
-pub record IsWorkOf (t : WorldSeen) (script : List ScriptLine) (number : ℕ) (w : SessionWork)
+pub record IsWorkOf (t : SessionWorld) (script : List ScriptLine) (number : ℕ) (w : SessionWork)
     : Type 0 where
   pub world : w.world.now ≡ t
   pub script_is : w.script.now ≡ script
   pub number_is : w.session.view.numbers ≡ number ∷ []
-  pub noted : (session_seen w.session.view).noted ≡ none_noted
+  pub noted : (session_view w.session.view).noted ≡ none_noted
   pub may : MayWork w
 
 -- it is done
-pub record IsDoneOf (t : WorldSeen) (script : List ScriptLine) (number : ℕ) (w : SessionWork)
+pub record IsDoneOf (t : SessionWorld) (script : List ScriptLine) (number : ℕ) (w : SessionWork)
     : Type 0 where
   pub rest : IsAtRest t.table w.session
   pub ran : SessionRan (of_world t number) script w.room.answers.items none_noted
-      (session_seen w.session.view)
+      (session_view w.session.view)
   pub holds : SeatHoldsPins t.table w.session.view w.room.pins.items
   pub versions : pinned_versions w.room.pins.items
       ≡ versions_of (saved_in script w.room.answers.items)
@@ -70,13 +70,13 @@ pub record IsDoneOf (t : WorldSeen) (script : List ScriptLine) (number : ℕ) (w
   pub few : saves_asked_in script ≤ 1024
 
 -- the works are those of the sessions from this number on
-abbrev pub AreWorks : WorldSeen → ℕ → List (List ScriptLine) → List SessionWork → Type 0
+abbrev pub AreWorks : SessionWorld → ℕ → List (List ScriptLine) → List SessionWork → Type 0
 AreWorks t first [] [] = ⊤
 AreWorks t first (script ∷ scripts) (w ∷ works) =
     IsWorkOf t script first w × AreWorks t (first + 1) scripts works
 AreWorks t first _ _ = ⊥
 
-abbrev pub AreDone : WorldSeen → ℕ → List (List ScriptLine) → List SessionWork → Type 0
+abbrev pub AreDone : SessionWorld → ℕ → List (List ScriptLine) → List SessionWork → Type 0
 AreDone t first [] [] = ⊤
 AreDone t first (script ∷ scripts) (w ∷ works) =
     IsDoneOf t script first w × AreDone t (first + 1) scripts works

@@ -2,14 +2,14 @@
 ghost use Rattle.std.specs.Prelude.{◌≡◌, ◌<◌, ◌≤◌, [], ℕ, All, IfErr, IfOk, length, take, vec_capacity, vec_len};
 ghost use Rattle.node_table.specs.LogTurns.{HasNoTurn};
 ghost use Rattle.report.specs.Numbers.{AreNumbers};
-ghost use Rattle.report.specs.Roots.{RootsTellWorlds, listed_root};
+ghost use Rattle.report.specs.Roots.{RootsNameWorlds, listed_root};
 ghost use Rattle.conformance.specs.sessions.Ran.{ClosesWorld};
-ghost use Rattle.session.specs.Closes.{HadHistory, sessions_seen};
+ghost use Rattle.session.specs.Closes.{HadHistory, session_views};
 ghost use Rattle.session.specs.Resting.{IsAtRest};
-ghost use Rattle.session.specs.Seen.{session_seen};
+ghost use Rattle.session.specs.SessionWorlds.{session_view};
 ghost use Rattle.world_run.specs.Ends.{IsEndOf};
 ghost use Rattle.world_run.specs.Open.{IsSaved, saved_seen};
-ghost use Rattle.world_run.specs.Told.{told_root};
+ghost use Rattle.world_run.specs.ListedRoots.{root_in_list};
 
 use crate::open_runs::SavedSession;
 use node_table::Root;
@@ -33,7 +33,7 @@ pub struct WorldRan {
 pub(crate) fn close_over<R: Wait>(
     rt: &R,
     alloc: Global,
-    world: World<'_>,
+    world: World,
     sessions: Vec<SavedSession>,
     room: Vec<Session>,
 ) -> Result<WorldRan, Memory>
@@ -41,18 +41,18 @@ pub(crate) fn close_over<R: Wait>(
     requires all { length sessions.items ≡ world.table.made }
     requires none { room.items ≡ [] }
     requires capacity { length sessions.items ≤ vec_capacity room }
-    ensures closes { IfOk result (λ r. ClosesWorld world.entry.tint world.entry.table.plan
-        world.entry.table.models (saved_seen sessions.items) r.ended.history) }
+    ensures closes { IfOk result (λ r. ClosesWorld world.tint world.table.plan
+        world.table.models (saved_seen sessions.items) r.ended.history) }
     ensures is_end { IfOk result
-        (λ r. IsEndOf world.entry.tint world.entry.table.models r.ended.history r.ended) }
+        (λ r. IsEndOf world.tint world.table.models r.ended.history r.ended) }
     ensures places { IfOk result
         (λ r. length r.ended.history.records < length r.roots.items) }
-    ensures roots { IfOk result (λ r. RootsTellWorlds world.entry.table.models r.ended.history
+    ensures roots { IfOk result (λ r. RootsNameWorlds world.table.models r.ended.history
         (listed_root r.roots.items)) }
     ensures numbers { IfOk result
-        (λ r. AreNumbers world.entry.table.models r.ended.history r.numbers.items) }
-    ensures refused { IfErr result (λ _. HadHistory world.entry.tint world.entry.table.plan
-        world.entry.table.models (saved_seen sessions.items)) }
+        (λ r. AreNumbers world.table.models r.ended.history r.numbers.items) }
+    ensures refused { IfErr result (λ _. HadHistory world.tint world.table.plan
+        world.table.models (saved_seen sessions.items)) }
 {
     let sessions = unpin_all(rt, &world, sessions, room);
     let levels = usize::from(world.plan().side().root_level()) + 1;
@@ -73,7 +73,7 @@ fn told(alloc: Global, ended: Ended, levels: usize) -> Result<WorldRan, Memory>
     ensures ended { IfOk result (λ r. r.ended ≡ ended) }
     ensures places { IfOk result (λ r. length ended.history.records < length r.roots.items) }
     ensures roots { IfOk result (λ r. (v : ℕ) → listed_root r.roots.items v
-        ≡ told_root ended.roots.items v) }
+        ≡ root_in_list ended.roots.items v) }
     ensures numbers { IfOk result (λ r. r.numbers.items ≡ take levels ended.live) }
 {
     let closed = ended.closed();
@@ -96,7 +96,7 @@ fn roots_by_version(
     requires { All (λ r. r.version < versions) roots.now }
     ensures many { IfOk result (λ all. length all.items ≡ versions) }
     ensures roots { IfOk result
-        (λ all. (v : ℕ) → listed_root all.items v ≡ told_root roots.now v) }
+        (λ all. (v : ℕ) → listed_root all.items v ≡ root_in_list roots.now v) }
 {
     let mut all = vec![in alloc; None; versions]?;
     let mut k = roots.len();
@@ -120,7 +120,7 @@ fn first_numbers(alloc: Global, live: &[u32; 11], levels: usize) -> Result<Vec<u
 /// Gives back what is held for saves, and gives up the world with its sessions.
 pub(crate) fn give_up_over<R: Wait>(
     rt: &R,
-    world: World<'_>,
+    world: World,
     sessions: Vec<SavedSession>,
     room: Vec<Session>,
 )
@@ -128,7 +128,7 @@ pub(crate) fn give_up_over<R: Wait>(
     requires all { length sessions.items ≡ world.table.made }
     requires none { room.items ≡ [] }
     requires capacity { length sessions.items ≤ vec_capacity room }
-    ensures { HadHistory world.entry.tint world.entry.table.plan world.entry.table.models
+    ensures { HadHistory world.tint world.table.plan world.table.models
         (saved_seen sessions.items) }
 {
     let sessions = unpin_all(rt, &world, sessions, room);
@@ -150,7 +150,7 @@ pub(crate) fn end_all(sessions: Vec<Session>)
 // The sessions, when nothing is held any more, behind those of the list.
 fn unpin_all<R: Wait>(
     rt: &R,
-    world: &World<'_>,
+    world: &World,
     sessions: Vec<SavedSession>,
     room: Vec<Session>,
 ) -> Vec<Session>
@@ -159,7 +159,7 @@ fn unpin_all<R: Wait>(
     requires capacity { length sessions.items ≤ vec_capacity room }
     ensures rest { All (IsAtRest world.now.table) result.items }
     ensures spare { All (λ s. s.view.held ≡ []) result.items }
-    ensures seen { sessions_seen result.items ≡ saved_seen sessions.items }
+    ensures seen { session_views result.items ≡ saved_seen sessions.items }
     ensures many { vec_len result ≡ length sessions.items }
 {
     let mut spare = room;
@@ -173,11 +173,11 @@ fn unpin_all<R: Wait>(
 }
 
 // The session, when nothing is held any more.
-fn unpin_one<R: Wait>(rt: &R, world: &World<'_>, saved: SavedSession) -> Session
+fn unpin_one<R: Wait>(rt: &R, world: &World, saved: SavedSession) -> Session
     requires saved { IsSaved world.now.tint world.now.table saved }
     ensures rest { IsAtRest world.now.table result }
     ensures none { result.view.held ≡ [] }
-    ensures seen { session_seen result.view ≡ session_seen saved.session.view }
+    ensures seen { session_view result.view ≡ session_view saved.session.view }
 {
     let SavedSession {
         mut session,

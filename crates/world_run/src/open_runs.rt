@@ -2,15 +2,15 @@
 ghost use Rattle.std.specs.Prelude.{◌≡◌, ◌<◌, ◌≤◌, true, Some, All, IfErr, IfOk, length};
 ghost use Rattle.std.specs.List.{slice_get};
 ghost use Rattle.report.specs.Numbers.{AreNumbers};
-ghost use Rattle.report.specs.Roots.{RootsTellWorlds, listed_root};
+ghost use Rattle.report.specs.Roots.{RootsNameWorlds, listed_root};
 ghost use Rattle.script.specs.Placing.{is_save_name};
 ghost use Rattle.conformance.specs.declared.saves.SavedBox.{SavedBox};
-ghost use Rattle.conformance.specs.sessions.Kept.{KeptSave, kept_at};
+ghost use Rattle.conformance.specs.sessions.LoggedSaves.{LoggedSave, logged_at};
 ghost use Rattle.conformance.specs.sessions.Ran.{ClosesWorld};
 ghost use Rattle.session.specs.Closes.{HadHistory};
-ghost use Rattle.session.specs.Seen.{session_seen};
+ghost use Rattle.session.specs.SessionWorlds.{session_view};
 ghost use Rattle.world_run.specs.Ends.{IsEndOf};
-ghost use Rattle.world_run.specs.Open.{HasSave, IsSaved, SavesAt, kept_in, file_of_save};
+ghost use Rattle.world_run.specs.Open.{HasSave, IsSaved, SavesAt, logged_in, file_of_save};
 
 use crate::endings::{WorldRan, close_over, give_up_over};
 use conformance::SavedBox;
@@ -30,18 +30,18 @@ pub(crate) struct SavedSession {
 /// A run whose sessions all ran their scripts, all sessions of its world. It holds what was saved,
 /// so that files can be made one at a time, and then its world is closed, or it is given up, for
 /// which it has room.
-pub struct OpenRun<'m> {
-    pub(crate) world: World<'m>,
+pub struct OpenRun {
+    pub(crate) world: World,
     pub(crate) sessions: Vec<SavedSession>,
     pub(crate) room: Vec<Session>,
 }
 
-impl<'m> Model for OpenRun<'m> {
+impl Model for OpenRun {
     ghost use Rattle.std.specs.Prelude.{◌≡◌, ◌≤◌, [], All, length, vec_capacity};
     ghost use Rattle.std.specs.Coded.{codes};
     ghost use Rattle.node_words.specs.shapes.ShapeCode.{coded_shape};
-    ghost use Rattle.one_store.specs.notes.Told.{coded_wanted};
-    ghost use Rattle.world_run.specs.Open.{IsSaved, RunState, kept_in, saved_seen};
+    ghost use Rattle.one_store.specs.notes.StoreNotes.{coded_wanted};
+    ghost use Rattle.world_run.specs.Open.{IsSaved, RunState, logged_in, saved_seen};
 
     ghost Value = { RunState };
 
@@ -52,7 +52,7 @@ impl<'m> Model for OpenRun<'m> {
       tint = r.world.tint;
       models = r.world.table.models;
       sessions = saved_seen r.sessions.items;
-      kept = kept_in r.sessions.items;
+      kept = logged_in r.sessions.items;
     } };
 
     ghost invariant = { λ r. All (IsSaved r.world.tint r.world.table) r.sessions.items
@@ -64,7 +64,7 @@ impl<'m> Model for OpenRun<'m> {
 
 // Which save of which session.
 #[derive(Clone, Copy)]
-struct SavePlace {
+struct SaveIndex {
     session: usize,
     save: usize,
 }
@@ -73,7 +73,7 @@ struct SavePlace {
 fn number_kept(sessions: &[SavedSession]) -> usize
     requires few { length sessions.now ≤ 64 }
     requires each { All (λ s. length s.saves.items ≤ 1024) sessions.now }
-    ensures { result ≡ length (kept_in sessions.now) }
+    ensures { result ≡ length (logged_in sessions.now) }
 {
     let mut number: usize = 0;
     for s in sessions {
@@ -83,15 +83,15 @@ fn number_kept(sessions: &[SavedSession]) -> usize
 }
 
 // Where the save of this number stands.
-fn place_of(sessions: &[SavedSession], k: usize) -> SavePlace
-    requires { k < length (kept_in sessions.now) }
+fn place_of(sessions: &[SavedSession], k: usize) -> SaveIndex
+    requires { k < length (logged_in sessions.now) }
     ensures { HasSave sessions.now k result }
 {
     let mut left = k;
     for at in 0..sessions.len() {
         let number = sessions[at].saves.len();
         if left < number {
-            return SavePlace {
+            return SaveIndex {
                 session: at,
                 save: left,
             };
@@ -102,26 +102,21 @@ fn place_of(sessions: &[SavedSession], k: usize) -> SavePlace
 }
 
 // The file of the save at this place.
-fn file_in(
-    alloc: Global,
-    world: &World<'_>,
-    s: &mut SavedSession,
-    k: usize,
-) -> Result<Vec<u8>, Memory>
+fn file_in(alloc: Global, world: &World, s: &mut SavedSession, k: usize) -> Result<Vec<u8>, Memory>
     requires saved { IsSaved world.now.tint world.now.table s.old }
     requires there { k < length s.old.saves.items }
     ensures saved { IsSaved world.now.tint world.now.table s.new }
     ensures same { s.new.saves ≡ s.old.saves }
-    ensures seen { session_seen s.new.session.view ≡ session_seen s.old.session.view }
+    ensures seen { session_view s.new.session.view ≡ session_view s.old.session.view }
     ensures file { IfOk result (λ file. (b : SavedBox) → slice_get s.old.saves.items k ≡ Some b
         → file.items ≡ file_of_save world.now.tint world.now.table.models
-        (kept_at (session_seen s.old.session.view).log b)) }
+        (logged_at (session_view s.old.session.view).log b)) }
 {
     let part = s.saves[k].part;
     world.saved_file(alloc, &mut s.session, s.pins.as_slice(), k, part)
 }
 
-impl<'m> OpenRun<'m> {
+impl OpenRun {
     /// How many saves were accepted.
     pub fn saves(&self) -> usize
         ensures { result ≡ length self.now.kept }
@@ -142,7 +137,7 @@ impl<'m> OpenRun<'m> {
     /// The file of the save of this number.
     pub fn file(&mut self, alloc: Global, k: usize) -> Result<Vec<u8>, Memory>
         requires { k < length self.old.kept }
-        ensures file { IfOk result (λ file. (s : KeptSave) → slice_get self.old.kept k ≡ Some s
+        ensures file { IfOk result (λ file. (s : LoggedSave) → slice_get self.old.kept k ≡ Some s
             → file.items ≡ file_of_save self.old.tint self.old.models s) }
         ensures same { self.new ≡ self.old }
     {
@@ -157,18 +152,18 @@ impl<'m> OpenRun<'m> {
 
     /// Gives back what is held for saves, and closes the world.
     pub fn close<R: Wait>(self, rt: &R, alloc: Global) -> Result<WorldRan, Memory>
-        ensures closes { IfOk result (λ r. ClosesWorld self.entry.tint self.entry.plan
-            self.entry.models self.entry.sessions r.ended.history) }
+        ensures closes { IfOk result (λ r. ClosesWorld self.tint self.plan
+            self.models self.sessions r.ended.history) }
         ensures is_end { IfOk result
-            (λ r. IsEndOf self.entry.tint self.entry.models r.ended.history r.ended) }
+            (λ r. IsEndOf self.tint self.models r.ended.history r.ended) }
         ensures places { IfOk result
             (λ r. length r.ended.history.records < length r.roots.items) }
-        ensures roots { IfOk result (λ r. RootsTellWorlds self.entry.models r.ended.history
+        ensures roots { IfOk result (λ r. RootsNameWorlds self.models r.ended.history
             (listed_root r.roots.items)) }
         ensures numbers { IfOk result
-            (λ r. AreNumbers self.entry.models r.ended.history r.numbers.items) }
-        ensures refused { IfErr result (λ _. HadHistory self.entry.tint self.entry.plan
-            self.entry.models self.entry.sessions) }
+            (λ r. AreNumbers self.models r.ended.history r.numbers.items) }
+        ensures refused { IfErr result (λ _. HadHistory self.tint self.plan
+            self.models self.sessions) }
     {
         let OpenRun {
             world,
@@ -181,8 +176,8 @@ impl<'m> OpenRun<'m> {
     /// Gives back what is held for saves, and gives up the sessions and their world. They had one
     /// history, which is not told. It takes no memory.
     pub fn give_up<R: Wait>(self, rt: &R)
-        ensures { HadHistory self.entry.tint self.entry.plan self.entry.models
-            self.entry.sessions }
+        ensures { HadHistory self.tint self.plan self.models
+            self.sessions }
     {
         let OpenRun {
             world,

@@ -4,12 +4,12 @@ ghost use Rattle.vox_read.specs.Contents.{AreModels};
 ghost use Rattle.script.specs.Fitting.{CommandFits, RisesFrom};
 ghost use Rattle.gate_run.specs.Runs.{RanEach};
 ghost use Rattle.node_table.specs.Begins.{AreNewPasses, terms_of};
-ghost use Rattle.conformance.specs.sessions.Kept.{kept_of};
+ghost use Rattle.conformance.specs.sessions.LoggedSaves.{logged_of};
 ghost use Rattle.conformance.specs.sessions.Ran.{SessionsRanKeeping};
 ghost use Rattle.session.specs.Resting.{IsAtRest};
-ghost use Rattle.session.specs.Seen.{AreLinesOfWorld};
+ghost use Rattle.session.specs.SessionWorlds.{AreLinesOfWorld};
 ghost use Rattle.std.specs.List.{AllZip};
-ghost use Rattle.world_run.specs.Open.{IsSaved, kept_in, saved_seen};
+ghost use Rattle.world_run.specs.Open.{IsSaved, logged_in, saved_seen};
 ghost use Rattle.world_run.specs.Works.{AreDone, AreWorks, IsRoomFor};
 ghost use Rattle.world_run.specs.Starts.{StartsScripts};
 
@@ -38,8 +38,8 @@ pub struct Settings {
 }
 
 /// A run whose sessions all ran their scripts, and their transcripts.
-pub struct ScriptsRun<'m> {
-    pub run: OpenRun<'m>,
+pub struct ScriptsRun {
+    pub run: OpenRun,
     pub transcripts: Vec<Transcript>,
 }
 
@@ -63,27 +63,27 @@ struct Start {
 /// The world, a stencil of each model and the lists of all answers and saves are taken before the
 /// first command; a command takes no memory. A run of no script, for which no words ask, is told as
 /// want of memory.
-pub fn run_scripts<'m, R: Threads + Wait + Sync, G: Gate + Sync>(
+pub fn run_scripts<R: Threads + Wait + Sync, G: Gate + Sync>(
     rt: &R,
     gate: &G,
     alloc: Global,
     plan: &Plan,
-    models: &'m Models,
+    models: Models,
     scripts: &[Script],
     settings: Settings,
-) -> Result<ScriptsRun<'m>, Memory>
-    requires models { AreModels models.now }
+) -> Result<ScriptsRun, Memory>
+    requires models { AreModels models }
     requires large { settings.tint ≡ true → 4 ≤ plan.now.side }
     requires few { length scripts.now ≤ 64 }
     requires rise { All (RisesFrom 1) scripts.now }
     requires fit { All
-        (All (λ l. CommandFits settings.tint (2 ^ plan.now.side) models.now l.command))
+        (All (λ l. CommandFits settings.tint (2 ^ plan.now.side) models l.command))
         scripts.now }
     ensures ran { IfOk result (λ r. SessionsRanKeeping settings.keep settings.tint plan.now
-        models.now 0 scripts.now r.transcripts.items r.run.sessions) }
+        models 0 scripts.now r.transcripts.items r.run.sessions) }
     ensures saved { IfOk result
-        (λ r. r.run.kept ≡ kept_of scripts.now r.transcripts.items r.run.sessions) }
-    ensures models { IfOk result (λ r. r.run.models ≡ models.now) }
+        (λ r. r.run.kept ≡ logged_of scripts.now r.transcripts.items r.run.sessions) }
+    ensures models { IfOk result (λ r. r.run.models ≡ models) }
     ensures plan { IfOk result (λ r. r.run.plan ≡ plan.now) }
     ensures tint { IfOk result (λ r. r.run.tint ≡ settings.tint) }
 {
@@ -152,26 +152,26 @@ fn give_up_outcomes(outcomes: Outcomes)
 }
 
 // Runs the scripts in a world where nothing was done yet.
-fn run_in<'m, R: Threads + Wait + Sync, G: Gate + Sync>(
+fn run_in<R: Threads + Wait + Sync, G: Gate + Sync>(
     rt: &R,
     gate: &G,
     alloc: Global,
-    world: World<'m>,
+    world: World,
     start: Start,
     scripts: &[Script],
-) -> Result<ScriptsRun<'m>, Memory>
+) -> Result<ScriptsRun, Memory>
     requires begun { StartsScripts world.table scripts.now start }
     requires few { length scripts.now ≤ 64 }
     requires rise { All (RisesFrom 1) scripts.now }
     requires fit { All (AreLinesOfWorld world) scripts.now }
-    ensures ran { IfOk result (λ r. SessionsRanKeeping world.entry.keep world.entry.tint
-        world.entry.table.plan world.entry.table.models 0 scripts.now r.transcripts.items
+    ensures ran { IfOk result (λ r. SessionsRanKeeping world.keep world.tint
+        world.table.plan world.table.models 0 scripts.now r.transcripts.items
         r.run.sessions) }
     ensures saved { IfOk result
-        (λ r. r.run.kept ≡ kept_of scripts.now r.transcripts.items r.run.sessions) }
-    ensures models { IfOk result (λ r. r.run.models ≡ world.entry.table.models) }
-    ensures plan { IfOk result (λ r. r.run.plan ≡ world.entry.table.plan) }
-    ensures tint { IfOk result (λ r. r.run.tint ≡ world.entry.tint) }
+        (λ r. r.run.kept ≡ logged_of scripts.now r.transcripts.items r.run.sessions) }
+    ensures models { IfOk result (λ r. r.run.models ≡ world.table.models) }
+    ensures plan { IfOk result (λ r. r.run.plan ≡ world.table.plan) }
+    ensures tint { IfOk result (λ r. r.run.tint ≡ world.tint) }
 {
     let Start {
         sessions,
@@ -200,13 +200,13 @@ fn run_in<'m, R: Threads + Wait + Sync, G: Gate + Sync>(
 }
 
 // Each session's work: its script, and its room.
-fn give_out<'a, 'm>(
-    world: &'a World<'m>,
+fn give_out<'a>(
+    world: &'a World,
     sessions: Vec<Session>,
     rooms: Vec<ScriptRoom>,
     scripts: &'a [Script],
-    room: Vec<SessionWork<'a, 'm>>,
-) -> Vec<SessionWork<'a, 'm>>
+    room: Vec<SessionWork<'a>>,
+) -> Vec<SessionWork<'a>>
     requires new { AreNewPasses world.now.table.id (terms_of world.now.table) sessions.items }
     requires many { length sessions.items ≡ length scripts.now }
     requires rooms { AllZip IsRoomFor scripts.now rooms.items }
@@ -256,9 +256,9 @@ fn run_works<R: Threads + Wait + Sync, G: Gate + Sync, W: Worker<G> + Send>(
 
 // What came of the works that are done, in the order of the scripts.
 fn take_in(
-    _world: &World<'_>,
+    _world: &World,
     scripts: &[Script],
-    works: Vec<SessionWork<'_, '_>>,
+    works: Vec<SessionWork<'_>>,
     outcomes: Outcomes,
 ) -> Outcomes
     requires done { AreDone _world.now 0 scripts.now works.items }
@@ -272,7 +272,7 @@ fn take_in(
     ensures ran { SessionsRanKeeping _world.now.keep _world.now.tint _world.now.table.plan
         _world.now.table.models 0 scripts.now result.transcripts.items
         (saved_seen result.sessions.items) }
-    ensures kept { kept_in result.sessions.items ≡ kept_of scripts.now result.transcripts.items
+    ensures kept { logged_in result.sessions.items ≡ logged_of scripts.now result.transcripts.items
         (saved_seen result.sessions.items) }
     ensures saved { All (IsSaved _world.now.tint _world.now.table) result.sessions.items }
     ensures many { length result.sessions.items ≡ length scripts.now }

@@ -6,14 +6,14 @@ use session::{Session, World, run_script};
 use std::sync::Wait;
 
 /// A session of a world, the script that it runs, and room for what comes of it.
-pub(crate) struct SessionWork<'a, 'm> {
-    pub(crate) world: &'a World<'m>,
+pub(crate) struct SessionWork<'a> {
+    pub(crate) world: &'a World,
     pub(crate) session: Session,
     pub(crate) script: &'a Script,
     pub(crate) room: ScriptRoom,
 }
 
-impl<'a, 'm, G: Gate> Worker<G> for SessionWork<'a, 'm> {
+impl<'a, G: Gate> Worker<G> for SessionWork<'a> {
     ghost use Rattle.world_run.specs.Works.{MayWork, Worked};
 
     ghost may_run = { MayWork };

@@ -9,7 +9,7 @@ use Rattle.vw_cell.specs.Places.{IsInWorld, IsInBox, FitsAt, is_in_box, half_x, 
 use Rattle.vw_cell.specs.Tests.{is_in_box_tells}
 use Rattle.vw_cell.specs.declared.directions.Direction.{Direction}
 use Rattle.vw_cell.specs.declared.directions.Direction.TheVariants.{LowX, HighX, LowY, HighY, LowZ, HighZ}
-use Rattle.vw_cell.specs.Faces.{has_next, is_bare, faces_in}
+use Rattle.vw_cell.specs.Faces.{has_next, is_exposed, faces_in}
 use Rattle.history_model.specs.Worlds.{World, plus}
 use Rattle.history_model.specs.Tints.{Tints}
 use Rattle.history_model.specs.Planes.{StoresTints, plane_at, plane_box, tells}
@@ -146,9 +146,9 @@ module _ (n whole : ℕ) (four : whole ≡ 4 * n) (cells stored w : World) (t : 
   ]
 
   bare_here : (d : Direction) (b : Boxed) → FitsAt b.at b.size n
-      → number_in b (is_bare d whole cells) ≡ number_in b (is_bare d n w)
+      → number_in b (is_exposed d whole cells) ≡ number_in b (is_exposed d n w)
   bare_here d b fits =
-      number_same n cells w here b (is_bare d whole cells) (is_bare d n w) fits
+      number_same n cells w here b (is_exposed d whole cells) (is_exposed d n w) fits
       (λ c i. ap (λ (set : Bool). set && not (has_next d whole cells c)) (here.each c i)
       ∙ ap (λ (next : Bool). w c && not next) (next_here d c i))
 

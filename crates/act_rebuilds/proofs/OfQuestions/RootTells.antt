@@ -20,8 +20,8 @@ use Rattle.history_model.specs.Worlds.{World}
 use Rattle.history_model.specs.declared.questions.Question.TheVariants.{Get, Colour, Count, Bounds, Faces, Ray}
 use Rattle.one_store.specs.Versions.{SameWorld}
 use Rattle.transcript.specs.declared.answers.Answer.TheVariants as answers
-use Rattle.conformance.specs.Telling.{is, colour, count, faces, extent, hit}
-use Rattle.act_rebuilds.specs.questions.TellsRoots.{TellsRoot}
+use Rattle.conformance.specs.QuestionAnswers.{is, colour, count, faces, extent, hit}
+use Rattle.act_rebuilds.specs.questions.AnswersByRoots.{AnswersByRoot}
 use Rattle.act_rebuilds.proofs.OfQuestions.SameTells.{number_same, faces_same, extent_same, hits_same}
 
 -- the world lies in the block of its root
@@ -68,20 +68,20 @@ module _ (held : List Tree) (side : ℕ) (root : Option Name) where
 
   pub get_told : (c : Cell) (set : Bool) → IsInWorld (2 ^ side) c
       → ForWorld held side root (λ cells. set ≡ cells c)
-      → TellsRoot held side root (Get c) (answers.Is set)
+      → AnswersByRoot held side root (Get c) (answers.Is set)
   get_told c set inside told w t s ones = is c set
       (sym ((root_same w s).each c inside) ∙ sym (told s.tree (root_block w s)))
 
   pub colour_told : (c : Cell) (set : Bool) → IsInWorld (2 ^ side) c
       → ForWorld held side root (λ cells. set ≡ cells c)
-      → TellsRoot held side root (Colour c) (answers.Colour (one_if set))
+      → AnswersByRoot held side root (Colour c) (answers.Colour (one_if set))
   colour_told c set inside told w t s ones = colour c (one_if set)
       (ones c inside
       ∙ ap one_if (sym ((root_same w s).each c inside) ∙ sym (told s.tree (root_block w s))))
 
   pub count_told : (b : Boxed) (number : ℕ) → FitsAt b.at b.size (2 ^ side)
       → ForWorld held side root (λ cells. number ≡ number_in b cells)
-      → TellsRoot held side root (Count b) (answers.Count number)
+      → AnswersByRoot held side root (Count b) (answers.Count number)
   count_told b number fits told w t s ones = count b number
       (told s.tree (root_block w s)
       ∙ number_same (2 ^ side) (cells_of (side - 2) (shape_of s.tree)) w
@@ -89,21 +89,21 @@ module _ (held : List Tree) (side : ℕ) (root : Option Name) where
 
   pub bounds_told : (least : Option Boxed)
       → ForWorld held side root (λ cells. IsExtent (2 ^ side) cells least)
-      → TellsRoot held side root Bounds (answers.Extent least)
+      → AnswersByRoot held side root Bounds (answers.Extent least)
   bounds_told least told w t s ones = extent least
       (extent_same (2 ^ side) (cells_of (side - 2) (shape_of s.tree)) w (root_same w s) least
       (told s.tree (root_block w s)))
 
   pub faces_told : (b : Boxed) (number : ℕ) → FitsAt b.at b.size (2 ^ side)
       → ForWorld held side root (λ cells. number ≡ faces_in (2 ^ side) cells b)
-      → TellsRoot held side root (Faces b) (answers.Faces number)
+      → AnswersByRoot held side root (Faces b) (answers.Faces number)
   faces_told b number fits told w t s ones = faces b number
       (told s.tree (root_block w s)
       ∙ faces_same (2 ^ side) (cells_of (side - 2) (shape_of s.tree)) w (root_same w s) b fits)
 
   pub ray_told : (from : Cell) (h : Heading) (found : Option Cell)
       → ForWorld held side root (λ cells. Hits from h (2 ^ side) cells found)
-      → TellsRoot held side root (Ray from h) (answers.Hit found)
+      → AnswersByRoot held side root (Ray from h) (answers.Hit found)
   ray_told from h found told w t s ones = hit from h found
       (hits_same (2 ^ side) (cells_of (side - 2) (shape_of s.tree)) w (root_same w s) from h found
       (told s.tree (root_block w s)))

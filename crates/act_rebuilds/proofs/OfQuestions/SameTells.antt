@@ -8,7 +8,7 @@ use Rattle.vw_cell.specs.Counts.{cell_at, number_in, number_below-same}
 use Rattle.vw_cell.specs.Places.{IsInWorld, FitsAt}
 use Rattle.vw_cell.specs.declared.directions.Direction.{Direction}
 use Rattle.vw_cell.specs.declared.directions.Direction.TheVariants.{LowX, HighX, LowY, HighY, LowZ, HighZ}
-use Rattle.vw_cell.specs.Faces.{has_next, is_bare, faces_in}
+use Rattle.vw_cell.specs.Faces.{has_next, is_exposed, faces_in}
 use Rattle.vw_cell.specs.Extents.{IsExtent}
 use Rattle.history_model.specs.Rays.{ClearBefore, Hits}
 use Rattle.history_model.specs.Ways.{Heading}
@@ -52,9 +52,9 @@ module _ (side : ℕ) (v w : World) (same : SameWorld side v w) where
       (cell_at c.x c.y (c.z + 1)) (record { x = x; y = y; z = z }))
 
   bare_same : (d : Direction) (b : Boxed) → FitsAt b.at b.size side
-      → number_in b (is_bare d side v) ≡ number_in b (is_bare d side w)
+      → number_in b (is_exposed d side v) ≡ number_in b (is_exposed d side w)
   bare_same d b fits =
-      number_same b (is_bare d side v) (is_bare d side w) fits
+      number_same b (is_exposed d side v) (is_exposed d side w) fits
       (λ c i. ap (λ (set : Bool). set && not (has_next d side v c)) (same.each c i)
       ∙ ap (λ (next : Bool). w c && not next) (next_same d c i))
 

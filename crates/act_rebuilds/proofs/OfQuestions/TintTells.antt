@@ -21,8 +21,8 @@ use Rattle.core_laws.proofs.OfTints.TintLaws.{stored_tint}
 use Rattle.colour.proofs.Quarters.{four_quarters, quarter_is}
 use Rattle.one_store.specs.Versions.{SameWorld}
 use Rattle.transcript.specs.declared.answers.Answer.TheVariants as answers
-use Rattle.conformance.specs.Telling.{is, colour, count, faces, extent, hit}
-use Rattle.act_rebuilds.specs.questions.TellsRoots.{TellsTinted}
+use Rattle.conformance.specs.QuestionAnswers.{is, colour, count, faces, extent, hit}
+use Rattle.act_rebuilds.specs.questions.AnswersByRoots.{AnswersByTints}
 use Rattle.act_rebuilds.proofs.OfQuestions.SameTells.{number_same, extent_same, hits_same}
 use Rattle.act_rebuilds.proofs.OfQuestions.RootTells.{root_block, root_same}
 use Rattle.act_rebuilds.proofs.OfQuestions.PlaneTells.{here, kept_here, faces_here}
@@ -65,14 +65,14 @@ module _ (held : List Tree) (side : ℕ) (root : Option Name) (large : 4 ≤ sid
 
   pub get_tinted : (c : Cell) (set : Bool) → IsInWorld (2 ^ side / 4) c
       → ForWorld held side root (λ cells. set ≡ cells c)
-      → TellsTinted held side root (Get c) (answers.Is set)
+      → AnswersByTints held side root (Get c) (answers.Is set)
   get_tinted c set inside told stored w t s keeps small tells =
       is c set (sym ((cells_same stored w t s keeps tells).each c inside)
       ∙ sym (told s.tree (root_block held side root stored s)))
 
   pub colour_tinted : (c : Cell) (tint : ℕ) → IsInWorld (2 ^ side / 4) c
       → ForWorld held side root (λ cells. tint ≡ tint_in (2 ^ (side - 2)) cells c)
-      → TellsTinted held side root (Colour c) (answers.Colour tint)
+      → AnswersByTints held side root (Colour c) (answers.Colour tint)
   colour_tinted c tint inside told stored w t s keeps small tells =
       let n : ℕ = 2 ^ side / 4 in
       let cells : World = cells_of (side - 2) (shape_of s.tree) in
@@ -84,7 +84,7 @@ module _ (held : List Tree) (side : ℕ) (root : Option Name) (large : 4 ≤ sid
 
   pub count_tinted : (b : Boxed) (number : ℕ) → FitsAt b.at b.size (2 ^ side / 4)
       → ForWorld held side root (λ cells. number ≡ number_in b cells)
-      → TellsTinted held side root (Count b) (answers.Count number)
+      → AnswersByTints held side root (Count b) (answers.Count number)
   count_tinted b number fits told stored w t s keeps small tells =
       let same = cells_same stored w t s keeps tells in
       count b number (told s.tree (root_block held side root stored s)
@@ -93,7 +93,7 @@ module _ (held : List Tree) (side : ℕ) (root : Option Name) (large : 4 ≤ sid
 
   pub bounds_tinted : (least : Option Boxed)
       → ForWorld held side root (λ cells. IsExtent (2 ^ (side - 2)) cells least)
-      → TellsTinted held side root Bounds (answers.Extent least)
+      → AnswersByTints held side root Bounds (answers.Extent least)
   bounds_tinted least told stored w t s keeps small tells =
       let cells : World = cells_of (side - 2) (shape_of s.tree) in
       extent least (extent_same (2 ^ side / 4) cells w (cells_same stored w t s keeps tells) least
@@ -102,7 +102,7 @@ module _ (held : List Tree) (side : ℕ) (root : Option Name) (large : 4 ≤ sid
 
   pub faces_tinted : (b : Boxed) (number : ℕ) → FitsAt b.at b.size (2 ^ side / 4)
       → ForWorld held side root (λ cells. number ≡ faces_in (2 ^ side) cells b)
-      → TellsTinted held side root (Faces b) (answers.Faces number)
+      → AnswersByTints held side root (Faces b) (answers.Faces number)
   faces_tinted b number fits told stored w t s keeps small tells =
       faces b number (told s.tree (root_block held side root stored s)
       ∙ faces_here (2 ^ side / 4) (2 ^ side) (four_of side large)
@@ -111,7 +111,7 @@ module _ (held : List Tree) (side : ℕ) (root : Option Name) (large : 4 ≤ sid
 
   pub ray_tinted : (from : Cell) (h : Heading) (found : Option Cell)
       → ForWorld held side root (λ cells. Hits from h (2 ^ (side - 2)) cells found)
-      → TellsTinted held side root (Ray from h) (answers.Hit found)
+      → AnswersByTints held side root (Ray from h) (answers.Hit found)
   ray_tinted from h found told stored w t s keeps small tells =
       let cells : World = cells_of (side - 2) (shape_of s.tree) in
       hit from h found

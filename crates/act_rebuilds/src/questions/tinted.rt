@@ -2,7 +2,7 @@ ghost use Rattle.std.specs.Prelude.{◌≡◌, ◌≤◌, ◌/◌, ◌^◌, true
 ghost use Rattle.node_words.specs.descent.Roots.{HoldsRoot};
 ghost use Rattle.conformance.specs.Fitting.{QuestionFits};
 ghost use Rattle.conformance.specs.Kinds.{is_resting};
-ghost use Rattle.act_rebuilds.specs.questions.TellsRoots.{TellsTinted};
+ghost use Rattle.act_rebuilds.specs.questions.AnswersByRoots.{AnswersByTints};
 
 use colour::{tint_at, tint_bounds, tint_ray};
 use history_model::Question;
@@ -13,7 +13,7 @@ use vw_cell::Side;
 
 /// Answers what is asked of the world whose tints the root's store keeps, the empty one where there
 /// is no root. Its side is a quarter of the store's.
-pub fn tell_tinted<B: Blocks>(
+pub fn answer_tinted<B: Blocks>(
     store: &mut B,
     root: Option<&Share>,
     side: Side,
@@ -22,7 +22,7 @@ pub fn tell_tinted<B: Blocks>(
     requires root { HoldsRoot (B.seen store.old).held side (option_copied root) }
     requires large { 4 ≤ side }
     requires fits { QuestionFits (2 ^ side / 4) question }
-    ensures tells { TellsTinted (B.seen store.old).held side (option_copied root.entry) question
+    ensures tells { AnswersByTints (B.seen store.old).held side (option_copied root.entry) question
         result }
     ensures resting { is_resting result ≡ true }
     ensures seen { B.seen store.new ≡ B.seen store.old }

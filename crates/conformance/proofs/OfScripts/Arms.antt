@@ -1,4 +1,4 @@
--- What each arm of a desk has to show, by what it did.
+-- What each arm of a responder has to show, by what it did.
 use Rattle.std.proofs.Common.{◌≡◌, ℕ, ◌+◌, ◌^◌, ◌≤◌, Bool, true, List, [], ◌∷◌, length, refl, subst, arith}
 use Rattle.std.specs.Prelude.{All}
 use Rattle.std.proofs.lemmas.List.Elements.{All-head, All-tail}
@@ -7,7 +7,7 @@ use Rattle.history_model.specs.declared.acts.Act.{Act}
 use Rattle.history_model.specs.declared.histories.Mark.{Mark}
 use Rattle.history_model.specs.Worlds.{World, is_edit}
 use Rattle.history_model.specs.Logs.{Log, IsLegal}
-use Rattle.node_words.specs.Held.{Seen, Wanted, IsSought}
+use Rattle.node_words.specs.Held.{StoreState, Wanted, IsSought}
 use Rattle.node_words.specs.Gathering.{Grew, unchanged, one}
 use Rattle.node_words.specs.Plans.{Layout}
 use Rattle.core_laws.specs.contents.Aligned.{top, world_block}
@@ -17,7 +17,7 @@ use Rattle.script.specs.declared.commands.ScriptLine.{ScriptLine}
 use Rattle.transcript.specs.declared.answers.Answer.{Answer}
 use Rattle.transcript.specs.declared.answers.Answer.TheVariants as answers
 use Rattle.transcript.specs.declared.answers.LineAnswer.{LineAnswer}
-use Rattle.conformance.specs.Answers.{IsStanding, Answers, full, log_full}
+use Rattle.conformance.specs.Answers.{IsUnforgotten, Answers, full, log_full}
 use Rattle.conformance.specs.Kinds.{is_resting, answer_at}
 use Rattle.conformance.specs.Refusing.{refused_by}
 use Rattle.conformance.specs.Running.{GrowsByRecord, ForgetsBy}
@@ -92,7 +92,7 @@ sought_low p w wanted part sought =
     omega arith
 
 pub full_arm : (p : Layout) (models : List Content) (session first line : ℕ) (act : Act)
-    (once : Bool) (level bucket : ℕ) (log : Log) (old new : Seen) → IsLegal (2 ^ p.side) models log
+    (once : Bool) (level bucket : ℕ) (log : Log) (old new : StoreState) → IsLegal (2 ^ p.side) models log
     → old.plan ≡ p
     → first ≤ length log.records
     → MeetsFull (IsWanted p models log.records act (length log.records)) level bucket old new
@@ -135,7 +135,7 @@ late_arm p models session first line act once log made now legal all edit low gr
 pub resting_arm : (p : Layout) (models : List Content) (session first : ℕ) (l : ScriptLine)
     (log : Log) (answer : Answer) (noted : MadeAndMet) → IsLegal (2 ^ p.side) models log
     → is_resting answer ≡ true → refused_by l.command (length log.records) answer ≡ []
-    → Answers p models log (IsStanding log.marks session l.line (length log.records)) session l.line
+    → Answers p models log (IsUnforgotten log.marks session l.line (length log.records)) session l.line
     (length log.records) l.command answer
     → TakesLine p models session first l log log noted noted
     (answer_at l (length log.records) answer)

@@ -9,7 +9,7 @@ use Rattle.history_model.specs.Stores.{edit_part_number, made_by_parts, stored_i
 use Rattle.history_model.specs.Worlds.{World, edited}
 use Rattle.node_words.specs.shapes.Shape.{Shape, ShowsCells, IsPart}
 use Rattle.node_words.specs.Gathering.{Grew, unchanged, one, Fails}
-use Rattle.node_words.specs.Held.{Seen}
+use Rattle.node_words.specs.Held.{StoreState}
 use Rattle.node_words.specs.Plans.{Layout}
 use Rattle.core_laws.specs.contents.Aligned.{world_block}
 use Rattle.conformance.specs.scripts.Keeping.{IsWanted, IsPlainTarget, MeetsFull}
@@ -68,7 +68,7 @@ module _ (p : Layout) (models : List Content) (records : List Record) (act : Act
       (plain_growth_wanted old before rest)
 
   -- and what of it met a full bucket
-  pub plain_failure_meets_full : (level bucket : ℕ) (old new : Seen)
+  pub plain_failure_meets_full : (level bucket : ℕ) (old new : StoreState)
       → Fails target level bucket old new
       → MeetsFull (IsWanted p models records act version) level bucket old new
   plain_failure_meets_full level bucket old new fails = record {

@@ -20,10 +20,10 @@ use Rattle.script.specs.declared.commands.Command.{Command}
 use Rattle.script.specs.declared.commands.Command.TheVariants.{Edit, Forget, Ask, Save, Same, Head}
 use Rattle.script.specs.declared.commands.ScriptLine.{ScriptLine}
 use Rattle.transcript.specs.declared.answers.LineAnswer.{LineAnswer}
-use Rattle.conformance.specs.Answers.{GoesOn}
+use Rattle.conformance.specs.Answers.{ExtendsLog}
 use Rattle.conformance.specs.Refusing.{span_by, spans_of, Refusal, refused_by, refused_of, WasPossible, FullOnlyWherePossible}
 
-module _ (p : Layout) (models : List Content) (old new : Log) (g : GoesOn old new) where
+module _ (p : Layout) (models : List Content) (old new : Log) (g : ExtendsLog old new) where
   stored_stay : (side v : ℕ) → v ≤ length old.records
       → stored_in side models new.records v ≡ stored_in side models old.records v
   stored_stay side v le = ap (λ (rs : List Record). stored_in side models rs v) g.records
@@ -103,7 +103,7 @@ made_by p models records spans Head first last s within m = absurd m
 -- one more line
 pub makes_more : (p : Layout) (models : List Content) (old new : Log) (spans : List Span)
     (refused : List Refusal) (made now : MadeAndMet) (first : ℕ) (l : ScriptLine) (a : LineAnswer)
-    → GoesOn old new → a.at ≤ length new.records
+    → ExtendsLog old new → a.at ≤ length new.records
     → KeepsMade p models old.records spans refused made
     → LineMakes p models first l a new.records made now
     → KeepsMade p models new.records (spans ++ span_by first l.command a.at)

@@ -19,7 +19,7 @@ saved_push (k ∷ lines) (b ∷ answers) l a many =
     (saved_push lines answers l a (omega (arith, many)))
     ∙ sym (append_assoc (saved_by k.command b.at b.answer) (saved_in lines answers) _)
 
--- what a desk saved before, and what the lines saved that were answered since
+-- what a responder saved before, and what the lines saved that were answered since
 pub record SavedByLines (old now : List SavedBox) (lines : List ScriptLine)
     (answers : List LineAnswer) : Type 0 where
   pub as_many : length answers ≡ length lines

@@ -7,7 +7,7 @@ use Rattle.vox_read.specs.Contents.{Content}
 use Rattle.history_model.specs.declared.acts.Act.{Act}
 use Rattle.history_model.specs.declared.histories.Record.{Record}
 use Rattle.node_words.specs.shapes.Shape.{Shape}
-use Rattle.node_words.specs.Held.{Seen, Wanted, IsSought}
+use Rattle.node_words.specs.Held.{StoreState, Wanted, IsSought}
 use Rattle.node_words.specs.Gathering.{Grew, unchanged, one}
 use Rattle.node_words.specs.Plans.{Layout}
 use Rattle.conformance.specs.scripts.Keeping.{MadeAndMet, made_and_met, IsWanted, MeetsFull, MakesPart, MakesFor, WasMet, LineMakes}
@@ -58,7 +58,7 @@ module _ (p : Layout) (models : List Content) (records : List Record) (act : Act
       }
 
   -- and one that met a full bucket at its moment
-  pub fails_line : (first line : ℕ) (once : Bool) (level bucket : ℕ) (old new : Seen)
+  pub fails_line : (first line : ℕ) (once : Bool) (level bucket : ℕ) (old new : StoreState)
       → first ≤ version → version ≤ length records → old.plan ≡ p
       → MeetsFull (IsWanted p models records act version) level bucket old new
       → LineMakes p models first (record { line = line; command = Edit act once })

@@ -8,7 +8,7 @@ use Rattle.vw_cell.specs.Counts.{number_in}
 use Rattle.history_model.specs.declared.acts.Act.{Act}
 use Rattle.history_model.specs.declared.histories.Mark.{Mark}
 use Rattle.history_model.specs.declared.questions.Question.{Question}
-use Rattle.history_model.specs.Logs.{kept_side}
+use Rattle.history_model.specs.Logs.{side_of_world}
 use Rattle.history_model.specs.Stores.{store_has}
 use Rattle.core_laws.specs.contents.Versions.{SameWorld}
 use Rattle.script.specs.declared.commands.Command.{Command}
@@ -39,12 +39,12 @@ use Rattle.retain.specs.declared.comparing.SameRefused.TheVariants as sames
 use Rattle.conformance.specs.sessions.Calls.{KnowsOwn, AcceptsNothing, OnlySees, FindsVersion, SeesForgotten}
 use Rattle.conformance.specs.sessions.Lines.{AreEarlier, AnswersLine}
 use Rattle.conformance.specs.sessions.Saves.{version_saved, versions_of}
-use Rattle.conformance.specs.sessions.Seen.{SessionOf, SessionSeen, history_seen}
-use Rattle.conformance.specs.sessions.Told.{WasAsked, IsSeenLength, NamesNone, NamesMarked, ActTold, OnceTold, AskTold, SaveTold, ForgetTold, SameTold, HeadTold, IsEqual, NamesVersion, TellsKept, answered, act_line, once_line, ask_line, save_line, forget_line, same_line, named_version}
+use Rattle.conformance.specs.sessions.SessionViews.{SessionOf, SessionView, history_seen}
+use Rattle.conformance.specs.sessions.CallSpecs.{WasAsked, IsSeenLength, NamesNone, NamesMarked, ActSpec, OnceSpec, AskSpec, SaveSpec, ForgetSpec, SameSpec, HeadSpec, IsEqual, NamesVersion, AnswersStored, answered, act_line, once_line, ask_line, save_line, forget_line, same_line, named_version}
 use Rattle.conformance.proofs.OfSessions.SuitLaws.{box_keeps, same_cells, same_tints, told_of_world}
 use Rattle.conformance.proofs.OfSessions.Arms.{accepted_arm, full_arm, stale_arm, refused_arm, forgot_arm, resting_arm, found_readable, marked_forgotten, found_way}
 
-module _ (of : SessionOf) (old new : SessionSeen) (knows : KnowsOwn of.number new) where
+module _ (of : SessionOf) (old new : SessionView) (knows : KnowsOwn of.number new) where
   -- what is shown at the length that was seen holds at the answer's moment
   at_moment : (l : ScriptLine) (at : ℕ) (answer : Answer) → IsSeenLength new at
       → AnswersLine of l old new
@@ -68,7 +68,7 @@ module _ (of : SessionOf) (old new : SessionSeen) (knows : KnowsOwn of.number ne
   seen_marked mark listed = record { mark = mark; listed = listed; same = refl }
 
   pub act_takes : (line : ℕ) (act : Act) (once : Bool) (answer : ActAnswer) → AreEarlier old line
-      → ActTold of line act old new answer
+      → ActSpec of line act old new answer
       → AnswersLine of (record { line = line; command = Edit act once }) old new
       (act_line line answer)
   act_takes line act once (acts.Done n) earlier told = at_moment
@@ -108,7 +108,7 @@ module _ (of : SessionOf) (old new : SessionSeen) (knows : KnowsOwn of.number ne
       (still_earlier line told.nothing earlier) (seen_marked mark told.listed))))
 
   pub once_takes : (line : ℕ) (act : Act) (answer : OnceAnswer) → AreEarlier old line
-      → OnceTold of line act old new answer
+      → OnceSpec of line act old new answer
       → AnswersLine of (record { line = line; command = Edit act true }) old new
       (once_line line answer)
   once_takes line act (onces.Done n) earlier told = act_takes line act true
@@ -180,12 +180,12 @@ module _ (of : SessionOf) (old new : SessionSeen) (knows : KnowsOwn of.number ne
       (readable line v
       (subst (λ (m : ℕ). FindsVersion new (asked_version version m)) told.at_is told.finds))
       (told_of_world of.tint of.plan of.models (history_seen of new) suits v question a.answer
-      (subst (λ (m : ℕ). TellsKept of.tint (2 ^ new.log.side)
+      (subst (λ (m : ℕ). AnswersStored of.tint (2 ^ new.log.side)
       (store_has of.models new.log
       (asked_version version m)) question a.answer) told.at_is told.tells))))
 
   save_ok : (line : ℕ) (version : Option ℕ) (name : SaveName) (part : Boxed) (at cells : ℕ)
-      → SaveFits (kept_side of.tint (2 ^ of.plan.side)) name part → IsSeenLength new at
+      → SaveFits (side_of_world of.tint (2 ^ of.plan.side)) name part → IsSeenLength new at
       → OnlySees old new → FindsVersion new (asked_version version at)
       → cells ≡ number_in part (store_has of.models new.log (asked_version version at))
       → AnswersLine of (record { line = line; command = Save version name part }) old new
@@ -206,7 +206,7 @@ module _ (of : SessionOf) (old new : SessionSeen) (knows : KnowsOwn of.number ne
 
   pub ask_takes : (line : ℕ) (version : Option ℕ) (question : Question)
       (answer : Result AskedAt PinRefused) → AreEarlier old line
-      → AskTold of version question old new answer
+      → AskSpec of version question old new answer
       → AnswersLine of (record { line = line; command = Ask version question }) old new
       (ask_line line version answer)
   ask_takes line version question (Ok a) earlier told = ask_ok line version question a told
@@ -226,8 +226,8 @@ module _ (of : SessionOf) (old new : SessionSeen) (knows : KnowsOwn of.number ne
 
   pub save_takes : (line : ℕ) (version : Option ℕ) (name : SaveName) (part : Boxed)
       (answer : Result SavedAt PinRefused)
-      → SaveFits (kept_side of.tint (2 ^ of.plan.side)) name part → AreEarlier old line
-      → SaveTold of version part old new answer
+      → SaveFits (side_of_world of.tint (2 ^ of.plan.side)) name part → AreEarlier old line
+      → SaveSpec of version part old new answer
       → AnswersLine of (record { line = line; command = Save version name part }) old new
       (save_line line version answer)
   save_takes line version name part
@@ -247,7 +247,7 @@ module _ (of : SessionOf) (old new : SessionSeen) (knows : KnowsOwn of.number ne
       (marked_is line mark.version told.only earlier sees)) told
 
   pub forget_takes : (line version : ℕ) (answer : Result ℕ ForgetRefused) → AreEarlier old line
-      → ForgetTold of line version old new answer
+      → ForgetSpec of line version old new answer
       → AnswersLine of (record { line = line; command = Forget version }) old new
       (forget_line line version answer)
   forget_takes line version (Ok at) earlier told = at_moment
@@ -307,7 +307,7 @@ module _ (of : SessionOf) (old new : SessionSeen) (knows : KnowsOwn of.number ne
       (history_seen of new) suits v w alike))))
 
   pub same_takes : (line v w : ℕ) (answer : Result SameAt SameRefused) → AreEarlier old line
-      → SameTold of v w old new answer
+      → SameSpec of v w old new answer
       → AnswersLine of (record { line = line; command = Same v w }) old new (same_line line answer)
   same_takes line v w
       (Ok a) earlier told = same_ok line v w a.at a.equal told.at_is told.only told.first told.second told.equal
@@ -330,7 +330,7 @@ module _ (of : SessionOf) (old new : SessionSeen) (knows : KnowsOwn of.number ne
       (λ suits. forgotten (Same v w) mark.version (names_one line v w mark.version told.named)
       (marked_is line mark.version told.only earlier (seen_marked mark told.listed))))
 
-  pub head_takes : (line at : ℕ) → HeadTold old new at
+  pub head_takes : (line at : ℕ) → HeadSpec old new at
       → AnswersLine of (record { line = line; command = Head }) old new
       (answered line at answers.Head)
   head_takes line at told = at_moment
@@ -340,7 +340,7 @@ module _ (of : SessionOf) (old new : SessionSeen) (knows : KnowsOwn of.number ne
       (λ suits. head))
 
 -- the line has this command, and this is its answer
-pub line_is : (of : SessionOf) (old new : SessionSeen) (l : ScriptLine) (command : Command)
+pub line_is : (of : SessionOf) (old new : SessionView) (l : ScriptLine) (command : Command)
     (a result : LineAnswer) → l.command ≡ command → result ≡ a
     → AnswersLine of (record { line = l.line; command = command }) old new a
     → AnswersLine of l old new result
@@ -350,7 +350,7 @@ line_is of old new l command a result of_command told takes =
     (sym of_command) takes)
 
 -- the line is a try
-pub tried_is : (of : SessionOf) (old new : SessionSeen) (l : ScriptLine) (act : Act) (once : Bool)
+pub tried_is : (of : SessionOf) (old new : SessionView) (l : ScriptLine) (act : Act) (once : Bool)
     (a result : LineAnswer) → l.command ≡ Edit act once → once ≡ true → result ≡ a
     → AnswersLine of (record { line = l.line; command = Edit act true }) old new a
     → AnswersLine of l old new result

@@ -16,7 +16,7 @@ use Rattle.script.specs.declared.commands.ScriptLine.{ScriptLine}
 use Rattle.transcript.specs.declared.answers.Answer.{Answer}
 use Rattle.transcript.specs.declared.answers.Answer.TheVariants as answers
 use Rattle.transcript.specs.declared.answers.LineAnswer.{LineAnswer}
-use Rattle.conformance.specs.Answers.{Answers, IsForgotten, IsReadable, HasWay, target_at, done, forgot, stale, full}
+use Rattle.conformance.specs.Answers.{Answers, IsForgotten, IsReadable, HasReadableTarget, target_at, done, forgot, stale, full}
 use Rattle.conformance.specs.Kinds.{is_resting, answer_at}
 use Rattle.conformance.specs.Passes.{IsLooked}
 use Rattle.conformance.specs.Refusing.{Refusal, refused_by}
@@ -24,7 +24,7 @@ use Rattle.conformance.specs.Shown.{Accepted, accepted_by, forgotten_by}
 use Rattle.conformance.proofs.LineKinds.{resting_not_done, resting_accepts, resting_forgets}
 use Rattle.conformance.specs.scripts.Keeping.{MakesFor, WasMet}
 use Rattle.conformance.proofs.OfScripts.Arms.{sought_low}
-use Rattle.conformance.specs.sessions.Seen.{session_keeping, log_as, SessionSeen, SeesSuited}
+use Rattle.conformance.specs.sessions.SessionViews.{session_keeping, log_as, SessionView, SeesSuited}
 use Rattle.conformance.specs.sessions.Fallen.{LineMarks}
 use Rattle.conformance.specs.sessions.Notes.{LineNotes}
 use Rattle.conformance.specs.sessions.Lines.{AreEarlier, AnswersLine}
@@ -33,7 +33,7 @@ use Rattle.conformance.specs.sessions.Calls.{KnowsOwn, AcceptsNothing, OnlySees,
 -- ---- what was noted
 
 act_notes : (p : Layout) (models : List Content) (act : Act) (once : Bool) (line : ℕ)
-    (answer : Answer) (old new : SessionSeen)
+    (answer : Answer) (old new : SessionView)
     → refused_by (Edit act once) (length new.log.records) answer ≡ []
     → NotesFor p models act old new
     → LineNotes p models new.log.records (length old.log.records)
@@ -51,7 +51,7 @@ act_notes p models act once line answer old new none n = record {
 }
 
 full_notes : (p : Layout) (models : List Content) (act : Act) (once : Bool) (line level bucket : ℕ)
-    (old new : SessionSeen) → MeetsFullBucket p models act level bucket old new
+    (old new : SessionView) → MeetsFullBucket p models act level bucket old new
     → LineNotes p models new.log.records (length old.log.records)
     (record { line = line; command = Edit act once })
     (record { line = line; at = length new.log.records; answer = answers.Full level bucket }) old.noted new.noted
@@ -76,7 +76,7 @@ full_notes p models act once line level bucket old new m =
     }
 
 idle_notes : (p : Layout) (models : List Content) (l : ScriptLine) (a : LineAnswer)
-    (old new : SessionSeen) → refused_by l.command a.at a.answer ≡ [] → new.noted ≡ old.noted
+    (old new : SessionView) → refused_by l.command a.at a.answer ≡ [] → new.noted ≡ old.noted
     → LineNotes p models new.log.records (length old.log.records) l a old.noted new.noted
 idle_notes p models l a old new none same = record {
   more = [];
@@ -94,7 +94,7 @@ idle_notes p models l a old new none same = record {
 -- ---- lines that accept something
 
 pub accepted_arm : (keep : ℕ) (tint : Bool) (p : Layout) (models : List Content) (session line : ℕ)
-    (act : Act) (once : Bool) (old new : SessionSeen) → AppendsOwn keep session line act old new
+    (act : Act) (once : Bool) (old new : SessionView) → AppendsOwn keep session line act old new
     → NotesFor p models act old new
     → AnswersLine (session_keeping keep tint p models session)
     (record { line = line; command = Edit act once }) old new
@@ -113,7 +113,7 @@ accepted_arm keep tint p models session line act once old new appends notes = re
 }
 
 pub forgot_arm : (keep : ℕ) (tint : Bool) (p : Layout) (models : List Content)
-    (session line version : ℕ) (old new : SessionSeen) → ForgetsOwn session line version old new
+    (session line version : ℕ) (old new : SessionView) → ForgetsOwn session line version old new
     → AnswersLine (session_keeping keep tint p models session)
     (record { line = line; command = Forget version }) old new
     (record { line = line; at = length new.log.records; answer = answers.Forgot version })
@@ -138,13 +138,13 @@ pub same_after : {X : Type 0} (none old new : List X) → none ≡ [] → new �
 same_after {X} none old new e same = subst (λ (xs : List X). new ≡ xs ++ old) (sym e) same
 
 -- a line without a record pushes no version out
-no_record : (keep : ℕ) (xs : List Accepted) (were : List Mark) (new : SessionSeen) → xs ≡ []
+no_record : (keep : ℕ) (xs : List Accepted) (were : List Mark) (new : SessionView) → xs ≡ []
     → new.marks ≡ were → LineMarks keep xs were new
 no_record keep xs were new none same =
     subst (λ (cs : List Accepted). LineMarks keep cs were new) (sym none) same
 
 pub full_arm : (keep : ℕ) (tint : Bool) (p : Layout) (models : List Content) (session line : ℕ)
-    (act : Act) (once : Bool) (level bucket : ℕ) (old new : SessionSeen) → AcceptsNothing old new
+    (act : Act) (once : Bool) (level bucket : ℕ) (old new : SessionView) → AcceptsNothing old new
     → MeetsFullBucket p models act level bucket old new
     → AnswersLine (session_keeping keep tint p models session)
     (record { line = line; command = Edit act once }) old new
@@ -175,7 +175,7 @@ same_base : (b c : ℕ) → answers.Stale b ≡ answers.Stale c → b ≡ c
 same_base b c e = ap base_of e
 
 pub stale_arm : (keep : ℕ) (tint : Bool) (p : Layout) (models : List Content) (session line : ℕ)
-    (act : Act) (base : ℕ) (old new : SessionSeen) → AcceptsNothing old new
+    (act : Act) (base : ℕ) (old new : SessionView) → AcceptsNothing old new
     → NotesFor p models act old new → length old.log.records ≤ base → base < length new.log.records
     → length new.log.records < 65535
     → AnswersLine (session_keeping keep tint p models session)
@@ -195,7 +195,7 @@ stale_arm keep tint p models session line act base old new nothing notes low hig
 }
 
 pub refused_arm : (keep : ℕ) (tint : Bool) (p : Layout) (models : List Content) (session line : ℕ)
-    (act : Act) (once : Bool) (answer : Answer) (old new : SessionSeen) → AcceptsNothing old new
+    (act : Act) (once : Bool) (answer : Answer) (old new : SessionView) → AcceptsNothing old new
     → NotesFor p models act old new → is_resting answer ≡ true
     → refused_by (Edit act once) (length new.log.records) answer ≡ []
     → (SeesSuited (session_keeping keep tint p models session) new
@@ -230,7 +230,7 @@ refused_arm keep tint p models session line act once answer old new nothing note
     }
 
 pub resting_arm : (keep : ℕ) (tint : Bool) (p : Layout) (models : List Content) (session : ℕ)
-    (l : ScriptLine) (answer : Answer) (old new : SessionSeen) → OnlySees old new
+    (l : ScriptLine) (answer : Answer) (old new : SessionView) → OnlySees old new
     → is_resting answer ≡ true → refused_by l.command (length new.log.records) answer ≡ []
     → (SeesSuited (session_keeping keep tint p models session) new
     → Answers p models (log_as tint new.log)
@@ -265,7 +265,7 @@ resting_arm keep tint p models session l answer old new only rests none fits = r
 
 -- ---- what stands behind answers
 
-pub found_readable : (session line : ℕ) (s : SessionSeen) (version : ℕ) → KnowsOwn session s
+pub found_readable : (session line : ℕ) (s : SessionView) (version : ℕ) → KnowsOwn session s
     → FindsVersion s version
     → IsReadable (IsLooked s.found s.marks line (length s.log.records))
     (length s.log.records) version
@@ -282,7 +282,7 @@ found_readable session line s version knows finds = record {
   };
 }
 
-pub marked_forgotten : (session line : ℕ) (s : SessionSeen) (version : ℕ) → KnowsOwn session s
+pub marked_forgotten : (session line : ℕ) (s : SessionView) (version : ℕ) → KnowsOwn session s
     → AreEarlier s line → SeesForgotten s version
     → IsForgotten s.log.marks session line (length s.log.records) version
 marked_forgotten session line s version knows earlier sees = record {
@@ -298,12 +298,12 @@ marked_forgotten session line s version knows earlier sees = record {
       → Contains s.marks m) s.log.marks sees.mark knows.own sees.listed mine);
 }
 
-pub found_way : (session line : ℕ) (s : SessionSeen) (act : Act) → KnowsOwn session s
+pub found_way : (session line : ℕ) (s : SessionView) (act : Act) → KnowsOwn session s
     →
     ((is_edit act ≡ true)
     ⊎ ((to : ℕ) × (target_at s.log.records (length s.log.records) act ≡ Some to)
     × FindsVersion s to))
-    → HasWay (IsLooked s.found s.marks line (length s.log.records)) s.log.records
+    → HasReadableTarget (IsLooked s.found s.marks line (length s.log.records)) s.log.records
     (length s.log.records) act
 found_way session line s act knows (inl edit) other = absurd (other edit)
 found_way session line s act knows (inr way) other =

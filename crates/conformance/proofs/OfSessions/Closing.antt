@@ -10,7 +10,7 @@ use Rattle.node_words.specs.Plans.{Layout}
 use Rattle.script.specs.declared.commands.ScriptLine.{ScriptLine}
 use Rattle.transcript.specs.declared.answers.LineAnswer.{LineAnswer}
 use Rattle.conformance.specs.Agreeing.{SessionsAgree}
-use Rattle.conformance.specs.Answers.{GoesOn}
+use Rattle.conformance.specs.Answers.{ExtendsLog}
 use Rattle.conformance.specs.Passes.{ArePartly}
 use Rattle.conformance.specs.Refusing.{spans_in, spans_of, refused_in, refused_of}
 use Rattle.conformance.specs.Runs.{AllRanKeeping}
@@ -20,7 +20,7 @@ use Rattle.conformance.proofs.GoingOn.{world_stays}
 use Rattle.conformance.proofs.Seeing.{longer}
 use Rattle.conformance.specs.scripts.Keeping.{KeepsMade}
 use Rattle.conformance.proofs.OfScripts.Refusals.{full_only_where_possible}
-use Rattle.conformance.specs.sessions.Seen.{session_keeping, log_as, SessionSeen, SuitsWorld, IsStill, AllowsWhole, none_noted}
+use Rattle.conformance.specs.sessions.SessionViews.{session_keeping, log_as, SessionView, SuitsWorld, IsStill, AllowsWhole, none_noted}
 use Rattle.conformance.specs.sessions.Ran.{SessionsRanKeeping, ClosesWorld, StillFound, records_of_all, noted_of_all}
 use Rattle.conformance.proofs.OfSessions.Items.{same_flipped, same_through}
 use Rattle.conformance.proofs.OfSessions.SuitLaws.{history_suits, may_tint}
@@ -31,7 +31,7 @@ use Rattle.conformance.proofs.OfSessions.Noting.{keep_both, notes_are_kept, note
 
 as_many : (keep : ℕ) (tint : Bool) (p : Layout) (models : List Content) (first : ℕ)
     (scripts : List (List ScriptLine)) (transcripts : List (List LineAnswer))
-    (sessions : List SessionSeen)
+    (sessions : List SessionView)
     → SessionsRanKeeping keep tint p models first scripts transcripts sessions
     → length scripts ≡ length transcripts
 as_many keep tint p models first [] [] [] ran = refl
@@ -44,7 +44,7 @@ as_many keep tint p models first _ _ _ ran = absurd ran
 
 records_weigh : (keep : ℕ) (tint : Bool) (p : Layout) (models : List Content) (f : Accepted → ℕ)
     (first : ℕ) (scripts : List (List ScriptLine)) (transcripts : List (List LineAnswer))
-    (sessions : List SessionSeen)
+    (sessions : List SessionView)
     → SessionsRanKeeping keep tint p models first scripts transcripts sessions
     → sum_by f (records_of_all sessions) ≡ sum_by f (accepted_of first scripts transcripts)
 records_weigh keep tint p models f first [] [] [] ran = refl
@@ -63,11 +63,11 @@ records_weigh keep tint p models f first _ _ _ ran = absurd ran
 
 sessions_agree : (keep : ℕ) (tint : Bool) (p : Layout) (models : List Content) (log : Log)
     (first : ℕ) (scripts : List (List ScriptLine)) (transcripts : List (List LineAnswer))
-    (sessions : List SessionSeen) → IsLegal (2 ^ p.side) models log → SuitsWorld tint p models log
+    (sessions : List SessionView) → IsLegal (2 ^ p.side) models log → SuitsWorld tint p models log
     → SessionsRanKeeping keep tint p models first scripts transcripts sessions
     → ArePartly (λ c. c.entry.session) accepted_in
     (numbered 1 log.records) first scripts transcripts → AreTheirs log.marks first sessions
-    → All (λ s. GoesOn (log_as tint s.log) log) sessions
+    → All (λ s. ExtendsLog (log_as tint s.log) log) sessions
     → All (λ s. All (StillFound log) s.found) sessions
     → SessionsAgree p models log first scripts transcripts
 sessions_agree keep tint p models log first [] [] [] legal suits ran records marks seen found = tt
@@ -76,7 +76,7 @@ sessions_agree keep tint p models log first (script ∷ scripts) (answers ∷ tr
       record { lines = ran.0.fit log whole; moments = ran.0.moments },
       sessions_agree keep tint p models log
           (first + 1) scripts transcripts sessions legal suits ran.1 records.1 marks.1
-          (All-tail (λ t. GoesOn (log_as tint t.log) log) s sessions seen)
+          (All-tail (λ t. ExtendsLog (log_as tint t.log) log) s sessions seen)
           (All-tail (λ t. All (StillFound log) t.found) s sessions found),
     )
   where
@@ -86,7 +86,7 @@ sessions_agree keep tint p models log first (script ∷ scripts) (answers ∷ tr
       may = may_tint tint p models log suits.keeps;
       coloured = suits.coloured;
       suits = suits.acts;
-      goes_on = All-head (λ t. GoesOn (log_as tint t.log) log) s sessions seen;
+      goes_on = All-head (λ t. ExtendsLog (log_as tint t.log) log) s sessions seen;
       records = same_through _ (accepted_in first script answers) s.records records.0
           (same_flipped s.records (accepted_in first script answers) ran.0.records);
       marks = marks.0;
@@ -100,16 +100,16 @@ sessions_agree keep tint p models log first _ _ _ legal suits ran records marks 
 
 all_kept : (keep : ℕ) (tint : Bool) (p : Layout) (models : List Content) (log : Log) (first : ℕ)
     (scripts : List (List ScriptLine)) (transcripts : List (List LineAnswer))
-    (sessions : List SessionSeen)
+    (sessions : List SessionView)
     → SessionsRanKeeping keep tint p models first scripts transcripts sessions
-    → All (λ s. GoesOn (log_as tint s.log) log) sessions
+    → All (λ s. ExtendsLog (log_as tint s.log) log) sessions
     → KeepsMade p models log.records (spans_of scripts transcripts) (refused_of scripts transcripts)
     (noted_of_all sessions)
 all_kept keep tint p models log first [] [] [] ran seen =
     record { made_in = All-nil _; was_met = All-nil _ }
 all_kept keep tint p models log first (script ∷ scripts) (answers ∷ transcripts)
     (s ∷ sessions) ran seen =
-    let g = All-head (λ t. GoesOn (log_as tint t.log) log) s sessions seen in
+    let g = All-head (λ t. ExtendsLog (log_as tint t.log) log) s sessions seen in
     let wide = longer (log_as tint s.log) log g in
     let same : length s.log.records ≤ length s.log.records = omega arith in
     let here =
@@ -118,7 +118,7 @@ all_kept keep tint p models log first (script ∷ scripts) (answers ∷ transcri
     (length s.log.records) 0 script answers none_noted s.noted same ran.0.lines ran.0.notes) in
     let rest =
     all_kept keep tint p models log (first + 1) scripts transcripts sessions ran.1
-    (All-tail (λ t. GoesOn (log_as tint t.log) log) s sessions seen) in
+    (All-tail (λ t. ExtendsLog (log_as tint t.log) log) s sessions seen) in
     keep_both p models log.records (spans_in 0 script answers) (spans_of scripts transcripts)
     (refused_in script answers) (refused_of scripts transcripts) s.noted
     (noted_of_all sessions) here rest
@@ -128,7 +128,7 @@ all_kept keep tint p models log first _ _ _ ran seen = absurd ran
 
 pub are_a_run : (keep : ℕ) (tint : Bool) (p : Layout) (models : List Content)
     (scripts : List (List ScriptLine)) (transcripts : List (List LineAnswer))
-    (sessions : List SessionSeen) (log : Log)
+    (sessions : List SessionView) (log : Log)
     → SessionsRanKeeping keep tint p models 0 scripts transcripts sessions
     → ClosesWorld tint p models sessions log
     → AllRanKeeping keep p models scripts transcripts log
@@ -161,7 +161,7 @@ are_a_run keep tint p models scripts transcripts sessions log ran closes =
     }
 
 -- what a session saw of a version
-pub seen_stays : (models : List Content) (seen log : Log) (version : ℕ) → GoesOn seen log
+pub seen_stays : (models : List Content) (seen log : Log) (version : ℕ) → ExtendsLog seen log
     → version ≤ length seen.records
     → world_has models log.records version ≡ world_has models seen.records version
 seen_stays models seen log version g le =

@@ -12,7 +12,7 @@ use Rattle.retain.specs.Retained.{falls_out, fallen_by, is_marked_by}
 use Rattle.retain.proofs.Merging.{falls}
 use Rattle.conformance.specs.Answers.{mark_of}
 use Rattle.conformance.specs.Shown.{Accepted}
-use Rattle.conformance.specs.sessions.Seen.{SessionSeen}
+use Rattle.conformance.specs.sessions.SessionViews.{SessionView}
 use Rattle.conformance.specs.sessions.Fallen.{PushedOut, PushesOut, LineMarks, IsFallen, HasMark, OwnMarks}
 
 -- ---- marks that stay
@@ -91,7 +91,7 @@ one_grown keep v c were new out is =
           (All-nil (IsFallen keep (c ∷ [])));
     }
 
-by_falls : (keep : ℕ) (c : Accepted) (were : List Mark) (new : SessionSeen) (o : Option ℕ)
+by_falls : (keep : ℕ) (c : Accepted) (were : List Mark) (new : SessionView) (o : Option ℕ)
     → falls_out c.at keep ≡ o → PushesOut o c were new → Grown keep (c ∷ []) were new.marks
 by_falls keep c were new None out pushes = none_grown keep (c ∷ []) were new.marks pushes
 by_falls keep c were new (Some v) out pushes = elim pushes.own [
@@ -99,7 +99,7 @@ by_falls keep c were new (Some v) out pushes = elim pushes.own [
   | inr more ↦ one_grown keep v c were new.marks out more
 ]
 
-pub line_grows : (keep : ℕ) (xs : List Accepted) (were : List Mark) (new : SessionSeen)
+pub line_grows : (keep : ℕ) (xs : List Accepted) (were : List Mark) (new : SessionView)
     → LineMarks keep xs were new → Grown keep xs were new.marks
 line_grows keep [] were new marks = none_grown keep [] were new.marks marks
 line_grows keep (c ∷ []) were new marks = by_falls keep c were new (falls_out c.at keep) refl marks
@@ -109,7 +109,7 @@ line_grows keep (c ∷ d ∷ more) were new marks = absurd marks
 falls_never : (n : ℕ) → falls_out n 0 ≡ None
 falls_never n = refl
 
-none_by_zero : (xs : List Accepted) (were : List Mark) (new : SessionSeen) → LineMarks 0 xs were new
+none_by_zero : (xs : List Accepted) (were : List Mark) (new : SessionView) → LineMarks 0 xs were new
     → new.marks ≡ were
 none_by_zero [] were new marks = marks
 none_by_zero (c ∷ []) were new marks =
@@ -117,7 +117,7 @@ none_by_zero (c ∷ []) were new marks =
 none_by_zero (c ∷ d ∷ more) were new marks = absurd marks
 
 -- what a line's record pushed out has a mark
-pushed_marked : (k : ℕ) (c : Accepted) (were : List Mark) (new : SessionSeen) → suc k ≤ c.at
+pushed_marked : (k : ℕ) (c : Accepted) (were : List Mark) (new : SessionView) → suc k ≤ c.at
     → PushesOut (falls_out c.at (suc k)) c were new
     → IsTrue (is_marked_by c.at (c.at - suc k) new.log.marks)
 pushed_marked k c were new late pushes =
@@ -126,7 +126,7 @@ pushed_marked k c were new late pushes =
     (falls c.at (suc k) (omega arith) late) pushes in
     p.marked
 
-line_marked : (k : ℕ) (xs : List Accepted) (were : List Mark) (new : SessionSeen)
+line_marked : (k : ℕ) (xs : List Accepted) (were : List Mark) (new : SessionView)
     → LineMarks (suc k) xs were new → All (HasMark (suc k) new.log.marks) xs
 line_marked k [] were new marks = All-nil (HasMark (suc k) new.log.marks)
 line_marked k (c ∷ []) were new marks =
@@ -136,7 +136,7 @@ line_marked k (c ∷ d ∷ more) were new marks = absurd marks
 
 -- ---- all lines so far
 
-pub none_own : (keep : ℕ) (s : SessionSeen) → s.records ≡ [] → s.marks ≡ [] → OwnMarks keep s []
+pub none_own : (keep : ℕ) (s : SessionView) → s.records ≡ [] → s.marks ≡ [] → OwnMarks keep s []
 none_own zero s records marks = record { weighs = λ f. ap (sum_by f) marks }
 none_own (suc k) s records marks = record {
   fallen = [];
@@ -147,7 +147,7 @@ none_own (suc k) s records marks = record {
 }
 
 -- one line more: xs are its records, and `forgot` what it forgot by hand
-pub own_more : (keep : ℕ) (old new : SessionSeen) (xs : List Accepted) (were forgot all : List Mark)
+pub own_more : (keep : ℕ) (old new : SessionView) (xs : List Accepted) (were forgot all : List Mark)
     → new.records ≡ xs ++ old.records → All (Contains new.log.marks) old.log.marks
     → LineMarks keep xs (forgot ++ old.marks) new
     → ((f : Mark → ℕ) → sum_by f all ≡ sum_by f were + sum_by f forgot) → OwnMarks keep old were

@@ -24,7 +24,7 @@ use Rattle.conformance.proofs.Running.{accepted_push, lines_push, forgotten_push
 use Rattle.conformance.proofs.Seeing.{pass_line, pass_agrees, longer}
 use Rattle.conformance.specs.scripts.Keeping.{MadeAndMet, last_moment}
 use Rattle.conformance.proofs.OfScripts.Arms.{last_within}
-use Rattle.conformance.specs.sessions.Seen.{session_keeping, log_as, SessionSeen, SeesSuited, DidNothing, AllowsWhole}
+use Rattle.conformance.specs.sessions.SessionViews.{session_keeping, log_as, SessionView, SeesSuited, DidNothing, AllowsWhole}
 use Rattle.conformance.specs.sessions.Ran.{IsAnswered, SessionRan}
 use Rattle.conformance.specs.sessions.Lines.{AreEarlier, AnswersLine, SuitsCommand, SessionSoFar}
 use Rattle.conformance.specs.sessions.Fallen.{IsFallen}
@@ -35,7 +35,7 @@ use Rattle.conformance.proofs.OfSessions.SavedSeen.{saves_seen}
 use Rattle.conformance.proofs.OfSessions.Noting.{line_notes_from, notes_push, notes_stay}
 
 pub begins : (keep : ℕ) (tint : Bool) (p : Layout) (models : List Content) (session : ℕ)
-    (s : SessionSeen) → DidNothing s
+    (s : SessionView) → DidNothing s
     → SessionSoFar (session_keeping keep tint p models session) [] [] s.noted s
 begins keep tint p models session s idle = record {
   lines = tt;
@@ -52,7 +52,7 @@ begins keep tint p models session s idle = record {
 }
 
 pub are_earlier : (keep : ℕ) (tint : Bool) (p : Layout) (models : List Content) (session : ℕ)
-    (script : List ScriptLine) (answers : List LineAnswer) (before : MadeAndMet) (s : SessionSeen)
+    (script : List ScriptLine) (answers : List LineAnswer) (before : MadeAndMet) (s : SessionView)
     (l : ScriptLine)
     → SessionSoFar (session_keeping keep tint p models session) script answers before s
     → IsAfter script l → AreEarlier s l.line
@@ -99,7 +99,7 @@ forgotten_of_line session line n (answers.Forgot v) =
 forgotten_of_line session line n _ = All-nil (λ (m : Mark). m.line ≡ line)
 
 module _ (keep : ℕ) (tint : Bool) (p : Layout) (models : List Content) (session : ℕ)
-    (l : ScriptLine) (old new : SessionSeen) (a : LineAnswer)
+    (l : ScriptLine) (old new : SessionView) (a : LineAnswer)
     (step : AnswersLine (session_keeping keep tint p models session) l old new a) where
   -- a mark of a version that fell out is of the line
   fallen_of_line : (m : Mark) → IsFallen keep (accepted_by session l.line l.command a.at a.answer) m
@@ -152,7 +152,7 @@ module _ (keep : ℕ) (tint : Bool) (p : Layout) (models : List Content) (sessio
 
 pub goes_on : (keep : ℕ) (tint : Bool) (p : Layout) (models : List Content) (session : ℕ)
     (script : List ScriptLine) (answers : List LineAnswer) (before : MadeAndMet)
-    (old new : SessionSeen) (l : ScriptLine) (a : LineAnswer)
+    (old new : SessionView) (l : ScriptLine) (a : LineAnswer)
     → SessionSoFar (session_keeping keep tint p models session) script answers before old
     → IsAfter script l → SuitsCommand tint l.command
     → AnswersLine (session_keeping keep tint p models session) l old new a
@@ -231,7 +231,7 @@ goes_on keep tint p models session script answers before old new l a so_far risi
 
 -- at the end each answer fits over every whole history that the session's view allows
 pub ends : (keep : ℕ) (tint : Bool) (p : Layout) (models : List Content) (session : ℕ)
-    (script : List ScriptLine) (answers : List LineAnswer) (before : MadeAndMet) (s : SessionSeen)
+    (script : List ScriptLine) (answers : List LineAnswer) (before : MadeAndMet) (s : SessionView)
     → SessionSoFar (session_keeping keep tint p models session) script answers before s
     → SessionRan (session_keeping keep tint p models session) script answers before s
 ends keep tint p models session script answers before s so_far = record {

@@ -19,12 +19,12 @@ use Rattle.retain.specs.Retained.{falls_out, fallen_by, fallen_from, is_marked_b
 use Rattle.retain.proofs.Merging.{falls, falls_not, fallen_rises}
 use Rattle.retain.proofs.OneList.{same_marks}
 use Rattle.retain.proofs.Lasting.{keeps_all}
-use Rattle.conformance.specs.Answers.{GoesOn}
+use Rattle.conformance.specs.Answers.{ExtendsLog}
 use Rattle.conformance.specs.Passes.{own_of}
 use Rattle.conformance.specs.Shown.{Accepted, SameItems, numbered, weight_at, accepted_in, forgotten_in, forgotten_of}
 use Rattle.conformance.proofs.Moments.{record_at}
 use Rattle.conformance.proofs.Parts.{accepted_own, forgotten_own}
-use Rattle.conformance.specs.sessions.Seen.{SessionSeen, log_as}
+use Rattle.conformance.specs.sessions.SessionViews.{SessionView, log_as}
 use Rattle.conformance.specs.sessions.Fallen.{IsFallen, HasMark, OwnAndFallen, OwnMarks}
 use Rattle.conformance.specs.sessions.Ran.{SessionsRanKeeping, records_of_all, marks_of_all}
 use Rattle.conformance.proofs.OfSessions.Fallen.{any_there, still_marked, fallen_is_of, fallen_wider}
@@ -86,7 +86,7 @@ all_same : (number : ℕ) (xs ys : List Mark) → SameItems xs ys → All (λ m.
     → All (λ m. m.session ≡ number) xs
 all_same number xs ys same all = same_numbers (λ (m : Mark). m.session) number xs ys same all
 
-own_marks_own : (keep number : ℕ) (s : SessionSeen) (script : List ScriptLine)
+own_marks_own : (keep number : ℕ) (s : SessionView) (script : List ScriptLine)
     (answers : List LineAnswer) → SameItems s.records (accepted_in number script answers)
     → OwnMarks keep s (forgotten_in number script answers) → All (λ m. m.session ≡ number) s.marks
 own_marks_own zero number s script answers records own =
@@ -116,7 +116,7 @@ pub record FallenOfAll (keep : ℕ) (records : List Accepted) (own forgot : List
 
 fallen_of_all : (k : ℕ) (tint : Bool) (p : Layout) (models : List Content) (first : ℕ)
     (scripts : List (List ScriptLine)) (transcripts : List (List LineAnswer))
-    (sessions : List SessionSeen)
+    (sessions : List SessionView)
     → SessionsRanKeeping (suc k) tint p models first scripts transcripts sessions
     → FallenOfAll (suc k) (records_of_all sessions) (marks_of_all sessions)
     (forgotten_of first scripts transcripts)
@@ -165,22 +165,22 @@ fallen_of_all k tint p models first _ _ _ ran = absurd ran
 -- what each record pushed out has a mark at the end
 all_marked : (k : ℕ) (tint : Bool) (p : Layout) (models : List Content) (log : Log) (first : ℕ)
     (scripts : List (List ScriptLine)) (transcripts : List (List LineAnswer))
-    (sessions : List SessionSeen)
+    (sessions : List SessionView)
     → SessionsRanKeeping (suc k) tint p models first scripts transcripts sessions
-    → All (λ s. GoesOn (log_as tint s.log) log) sessions
+    → All (λ s. ExtendsLog (log_as tint s.log) log) sessions
     → All (HasMark (suc k) log.marks) (records_of_all sessions)
 all_marked k tint p models log first [] [] [] ran seen = All-nil (HasMark (suc k) log.marks)
 all_marked k tint p models log first (script ∷ scripts) (answers ∷ transcripts)
     (s ∷ sessions) ran seen =
     let own : OwnAndFallen (suc k) s (forgotten_in first script answers) = ran.0.marks in
-    let g : GoesOn (log_as tint s.log) log =
-    All-head (λ t. GoesOn (log_as tint t.log) log) s sessions seen in
+    let g : ExtendsLog (log_as tint s.log) log =
+    All-head (λ t. ExtendsLog (log_as tint t.log) log) s sessions seen in
     All-append (HasMark (suc k) log.marks) s.records (records_of_all sessions)
     (All-weaker (HasMark (suc k) s.log.marks) (HasMark (suc k) log.marks)
     (λ c has late. still_marked s.log.marks log.marks c.at (c.at - suc k) g.marks
     (has late)) s.records own.marked)
     (all_marked k tint p models log (first + 1) scripts transcripts sessions ran.1
-    (All-tail (λ t. GoesOn (log_as tint t.log) log) s sessions seen))
+    (All-tail (λ t. ExtendsLog (log_as tint t.log) log) s sessions seen))
 all_marked k tint p models log first _ _ _ ran seen = absurd ran
 
 -- ---- each record has the version that it pushed out marked
@@ -210,9 +210,9 @@ marked_at k log all same marked n late within =
 
 pub keeps_last : (keep : ℕ) (tint : Bool) (p : Layout) (models : List Content) (log : Log)
     (scripts : List (List ScriptLine)) (transcripts : List (List LineAnswer))
-    (sessions : List SessionSeen)
+    (sessions : List SessionView)
     → SessionsRanKeeping keep tint p models 0 scripts transcripts sessions
-    → All (λ s. GoesOn (log_as tint s.log) log) sessions
+    → All (λ s. ExtendsLog (log_as tint s.log) log) sessions
     → SameItems (numbered 1 log.records) (records_of_all sessions) → KeepsLast keep log
 keeps_last zero tint p models log scripts transcripts sessions ran seen records = keeps_all log
 keeps_last (suc k) tint p models log scripts transcripts sessions ran seen records = record {
@@ -495,7 +495,7 @@ module _ (k : ℕ) (log : Log) (all : List Accepted) (forgot fallen : List Mark)
 
 marks_weigh : (tint : Bool) (p : Layout) (models : List Content) (f : Mark → ℕ) (first : ℕ)
     (scripts : List (List ScriptLine)) (transcripts : List (List LineAnswer))
-    (sessions : List SessionSeen)
+    (sessions : List SessionView)
     → SessionsRanKeeping 0 tint p models first scripts transcripts sessions
     → sum_by f (marks_of_all sessions) ≡ sum_by f (forgotten_of first scripts transcripts)
 marks_weigh tint p models f first [] [] [] ran = refl
@@ -512,9 +512,9 @@ marks_weigh tint p models f first _ _ _ ran = absurd ran
 -- the marks of the history are those by hand, and those of the versions that fell out
 pub marks_shown : (keep : ℕ) (tint : Bool) (p : Layout) (models : List Content) (log : Log)
     (scripts : List (List ScriptLine)) (transcripts : List (List LineAnswer))
-    (sessions : List SessionSeen)
+    (sessions : List SessionView)
     → SessionsRanKeeping keep tint p models 0 scripts transcripts sessions
-    → AreRising log.marks → All (λ s. GoesOn (log_as tint s.log) log) sessions
+    → AreRising log.marks → All (λ s. ExtendsLog (log_as tint s.log) log) sessions
     → SameItems (numbered 1 log.records) (records_of_all sessions)
     → SameItems log.marks (marks_of_all sessions)
     → SameItems log.marks (with_fallen keep log.records (forgotten_of 0 scripts transcripts))
@@ -537,14 +537,14 @@ marks_shown (suc k) tint p models log scripts transcripts sessions ran rising se
 -- ---- session by session
 
 -- each session's marks are its own
-abbrev OwnTheirs : ℕ → List SessionSeen → Type 0
+abbrev OwnTheirs : ℕ → List SessionView → Type 0
 OwnTheirs first [] = ⊤
 OwnTheirs first (s ∷ sessions) =
     All (λ m. m.session ≡ first) s.marks × OwnTheirs (first + 1) sessions
 
 own_theirs : (keep : ℕ) (tint : Bool) (p : Layout) (models : List Content) (first : ℕ)
     (scripts : List (List ScriptLine)) (transcripts : List (List LineAnswer))
-    (sessions : List SessionSeen)
+    (sessions : List SessionView)
     → SessionsRanKeeping keep tint p models first scripts transcripts sessions
     → OwnTheirs first sessions
 own_theirs keep tint p models first [] [] [] ran = tt
@@ -578,7 +578,7 @@ all_of f session marks own =
     (All-weaker (λ (m : Mark). m.session ≡ session) (λ (m : Mark). only f session m ≡ f m)
     (λ m is. ap (λ (b : Bool). where_so b (f m)) (eq-eqb m.session session is)) marks own)
 
-later_weigh_none : (f : Mark → ℕ) (session first : ℕ) (sessions : List SessionSeen)
+later_weigh_none : (f : Mark → ℕ) (session first : ℕ) (sessions : List SessionView)
     → session < first → OwnTheirs first sessions
     → sum_by (only f session) (marks_of_all sessions) ≡ 0
 later_weigh_none f session first [] low own = refl
@@ -589,12 +589,12 @@ later_weigh_none f session first (s ∷ sessions) low own =
     omega arith
 
 -- each session's marks of a history, from this one on, are those that it lists
-abbrev pub AreTheirs : List Mark → ℕ → List SessionSeen → Type 0
+abbrev pub AreTheirs : List Mark → ℕ → List SessionView → Type 0
 AreTheirs items first [] = ⊤
 AreTheirs items first (s ∷ sessions) =
     SameItems (own_of (λ m. m.session) first items) s.marks × AreTheirs items (first + 1) sessions
 
-theirs_from : (items : List Mark) (first : ℕ) (sessions : List SessionSeen)
+theirs_from : (items : List Mark) (first : ℕ) (sessions : List SessionView)
     → OwnTheirs first sessions
     →
     ((f : Mark → ℕ) (session : ℕ) → first ≤ session → sum_by (only f session) items
@@ -620,7 +620,7 @@ theirs_from items first (s ∷ sessions) own weighs = (
 
 pub marks_are_theirs : (keep : ℕ) (tint : Bool) (p : Layout) (models : List Content)
     (items : List Mark) (scripts : List (List ScriptLine)) (transcripts : List (List LineAnswer))
-    (sessions : List SessionSeen)
+    (sessions : List SessionView)
     → SessionsRanKeeping keep tint p models 0 scripts transcripts sessions
     → SameItems items (marks_of_all sessions) → AreTheirs items 0 sessions
 marks_are_theirs keep tint p models items scripts transcripts sessions ran same =

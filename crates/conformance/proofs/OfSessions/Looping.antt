@@ -9,20 +9,20 @@ use Rattle.script.specs.declared.commands.ScriptLine.{ScriptLine}
 use Rattle.script.specs.Fitting.{RisesFrom}
 use Rattle.transcript.specs.declared.answers.LineAnswer.{LineAnswer}
 use Rattle.conformance.specs.declared.saves.SavedBox.{SavedBox}
-use Rattle.conformance.specs.Answers.{GoesOn}
+use Rattle.conformance.specs.Answers.{ExtendsLog}
 use Rattle.conformance.specs.Kinds.{IsAfter}
 use Rattle.conformance.specs.Saves.{saved_by}
 use Rattle.conformance.proofs.LineKinds.{goes_nowhere}
 use Rattle.conformance.proofs.OfScripts.RunSteps.{earlier}
 use Rattle.conformance.proofs.OfScripts.Saving.{SavedByLines, no_line_saved, line_saved, all_lines_saved}
-use Rattle.conformance.specs.sessions.Seen.{SessionOf, SessionSeen, DidNothing}
+use Rattle.conformance.specs.sessions.SessionViews.{SessionOf, SessionView, DidNothing}
 use Rattle.conformance.specs.sessions.Lines.{AreEarlier, AnswersLine, SuitsCommand, SessionSoFar}
 use Rattle.conformance.specs.sessions.Runs.{RunsScript}
 use Rattle.conformance.specs.sessions.Saves.{saves_asked, saves_asked_in, versions_of}
 use Rattle.conformance.proofs.OfSessions.Going.{begins, are_earlier, goes_on, ends}
 
 -- a history goes on from what it goes on from
-goes_through : (a b c : Log) → GoesOn a b → GoesOn b c → GoesOn a c
+goes_through : (a b c : Log) → ExtendsLog a b → ExtendsLog b c → ExtendsLog a c
 goes_through a b c first second = record {
   side = second.side ∙ first.side;
   coloured = second.coloured ∙ first.coloured;
@@ -78,16 +78,16 @@ asked_within (k ∷ lines) (suc i) l lt is =
 
 -- the first lines of a script were run
 pub record LinesRan (of : SessionOf) (lines : List ScriptLine) (before after : List LineAnswer)
-    (old new : SessionSeen) (were are : List ℕ) : Type 0 where
+    (old new : SessionView) (were are : List ℕ) : Type 0 where
   pub answers : List LineAnswer
   pub pushed : after ≡ before ++ answers
   pub so_far : SessionSoFar of lines answers old.noted new
-  pub goes_on : GoesOn old.log new.log
+  pub goes_on : ExtendsLog old.log new.log
   pub boxes : List SavedBox
   pub saved : SavedByLines [] boxes lines answers
   pub versions : are ≡ were ++ versions_of boxes
 
-pub no_lines : (of : SessionOf) (before : List LineAnswer) (s : SessionSeen) (saved : List ℕ)
+pub no_lines : (of : SessionOf) (before : List LineAnswer) (s : SessionView) (saved : List ℕ)
     → DidNothing s → LinesRan of [] before before s s saved saved
 no_lines of before s saved idle = record {
   answers = [];
@@ -101,7 +101,7 @@ no_lines of before s saved idle = record {
 
 -- the next line's premise
 pub next_earlier : (of : SessionOf) (lines : List ScriptLine) (i : ℕ) (l : ScriptLine)
-    (before after : List LineAnswer) (old s : SessionSeen) (were are : List ℕ) → i < length lines
+    (before after : List LineAnswer) (old s : SessionView) (were are : List ℕ) → i < length lines
     → RisesFrom 1 lines → l ≡ get_or lines i l
     → LinesRan of (take i lines) before after old s were are → AreEarlier s l.line
 next_earlier of lines i l before after old s were are lt rising is ran =
@@ -111,7 +111,7 @@ next_earlier of lines i l before after old s were are lt rising is ran =
     (earlier 1 lines i l rising lt))
 
 pub next_line : (of : SessionOf) (lines : List ScriptLine) (i : ℕ) (l : ScriptLine)
-    (before after further : List LineAnswer) (old mid new : SessionSeen) (were between are : List ℕ)
+    (before after further : List LineAnswer) (old mid new : SessionView) (were between are : List ℕ)
     (a : LineAnswer)
     → i < length lines → RisesFrom 1 lines → l ≡ get_or lines i l → SuitsCommand of.tint l.command
     → LinesRan of (take i lines) before after old mid were between → AnswersLine of l mid new a
@@ -141,7 +141,7 @@ next_line of lines i l before after further old mid new were between are a lt ri
     }
 
 pub all_lines : (of : SessionOf) (lines : List ScriptLine) (i : ℕ) (before after : List LineAnswer)
-    (old new : SessionSeen) (were are : List ℕ) → length lines ≤ i
+    (old new : SessionView) (were are : List ℕ) → length lines ≤ i
     → LinesRan of (take i lines) before after old new were are
     → RunsScript of lines before after old new were are
 all_lines of lines i before after old new were are past ran = record {

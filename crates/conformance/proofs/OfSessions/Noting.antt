@@ -13,7 +13,7 @@ use Rattle.script.specs.declared.commands.Command.{Command}
 use Rattle.script.specs.declared.commands.Command.TheVariants.{Edit, Forget, Ask, Save, Same, Head}
 use Rattle.script.specs.declared.commands.ScriptLine.{ScriptLine}
 use Rattle.transcript.specs.declared.answers.LineAnswer.{LineAnswer}
-use Rattle.conformance.specs.Answers.{GoesOn}
+use Rattle.conformance.specs.Answers.{ExtendsLog}
 use Rattle.conformance.specs.Refusing.{Refusal, span_by, spans_in, refused_by, refused_in}
 use Rattle.conformance.proofs.LineKinds.{goes_nowhere}
 use Rattle.conformance.specs.scripts.Keeping.{MadeAndMet, MakesFor, WasMet, LineMakes, IsMadeInRun, KeepsMade, last_moment}
@@ -23,7 +23,7 @@ use Rattle.conformance.specs.sessions.Ran.{IsAnswered}
 
 -- ---- a longer history
 
-module _ (p : Layout) (models : List Content) (old new : Log) (g : GoesOn old new) where
+module _ (p : Layout) (models : List Content) (old new : Log) (g : ExtendsLog old new) where
   makes_stays : (command : Command) (first last : ℕ) (s : Shape) → last ≤ length old.records
       → MakesFor p models old.records command first last s
       → MakesFor p models new.records command first last s

@@ -16,7 +16,7 @@ use Rattle.conformance.specs.declared.saves.SavedBox.{SavedBox}
 use Rattle.conformance.specs.Answers.{Answers, saves, no_version, forgotten}
 use Rattle.conformance.specs.Passes.{LineSeen}
 use Rattle.conformance.specs.Saves.{saved_by, saved_in}
-use Rattle.conformance.specs.sessions.Seen.{SessionSeen, log_as}
+use Rattle.conformance.specs.sessions.SessionViews.{SessionView, log_as}
 
 none_missing : (command : Command) (n v : ℕ) → saved_by command n (answers.NoVersion v) ≡ []
 none_missing (Edit act once) n v = refl
@@ -34,10 +34,10 @@ none_forgotten (Save version name part) n v = refl
 none_forgotten (Same u w) n v = refl
 none_forgotten Head n v = refl
 
-module _ (p : Layout) (models : List Content) (log : Log) (Stands : ℕ → Type 0)
+module _ (p : Layout) (models : List Content) (log : Log) (Unforgotten : ℕ → Type 0)
     (session line n : ℕ) where
   line_saves : (command : Command) (answer : Answer)
-      → Answers p models log Stands session line n command answer
+      → Answers p models log Unforgotten session line n command answer
       → All (λ (s : SavedBox). s.version ≤ n) (saved_by command n answer)
   line_saves command answer (saves version name part cells readable e) = All-cons
       (λ (s : SavedBox). s.version ≤ n) _ [] readable.there
@@ -50,7 +50,7 @@ module _ (p : Layout) (models : List Content) (log : Log) (Stands : ℕ → Type
       (All-nil (λ (s : SavedBox). s.version ≤ n))
   line_saves command answer _ = All-nil (λ (s : SavedBox). s.version ≤ n)
 
-pub saves_seen : (tint : Bool) (p : Layout) (models : List Content) (session : ℕ) (s : SessionSeen)
+pub saves_seen : (tint : Bool) (p : Layout) (models : List Content) (session : ℕ) (s : SessionView)
     (script : List ScriptLine) (transcript : List LineAnswer)
     → AllZip (LineSeen p models (log_as tint s.log) s.found s.marks session) script transcript
     → All (λ (save : SavedBox). save.version ≤ length s.log.records) (saved_in script transcript)

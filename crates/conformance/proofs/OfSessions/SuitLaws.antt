@@ -9,7 +9,7 @@ use Rattle.vw_cell.specs.Places.{FitsAt, IsInWorld}
 use Rattle.history_model.specs.Contents.{Content}
 use Rattle.history_model.specs.declared.histories.Record.{Record}
 use Rattle.history_model.specs.declared.questions.Question.{Question}
-use Rattle.history_model.specs.Logs.{Log, FitsWorld, IsLegal, IsPlain, kept_side, suits_tints, world_side}
+use Rattle.history_model.specs.Logs.{Log, FitsWorld, IsLegal, IsPlain, side_of_world, suits_tints, world_side}
 use Rattle.history_model.specs.Moments.{world_has, world_tint}
 use Rattle.history_model.specs.Planes.{StoresTints, plane_at}
 use Rattle.history_model.specs.Stores.{store_has, stored_in}
@@ -29,14 +29,14 @@ use Rattle.script.specs.Fitting.{CommandFits}
 use Rattle.transcript.specs.declared.answers.Answer.{Answer}
 use Rattle.transcript.specs.declared.answers.Answer.TheVariants as answers
 use Rattle.transcript.specs.declared.answers.LineAnswer.{LineAnswer}
-use Rattle.conformance.specs.Answers.{GoesOn}
+use Rattle.conformance.specs.Answers.{ExtendsLog}
 use Rattle.conformance.specs.Shown.{Accepted, SameItems, numbered, accepted_by}
-use Rattle.conformance.specs.Telling.{Tells}
+use Rattle.conformance.specs.QuestionAnswers.{AnswersTo}
 use Rattle.conformance.proofs.Seeing.{longer}
-use Rattle.conformance.specs.sessions.Seen.{SessionOf, SessionSeen, MayTint, MayKeep, SuitsWorld, AllowsWhole, log_as}
+use Rattle.conformance.specs.sessions.SessionViews.{SessionOf, SessionView, MayTint, MayKeep, SuitsWorld, AllowsWhole, log_as}
 use Rattle.conformance.specs.sessions.Lines.{SuitsCommand}
 use Rattle.conformance.specs.sessions.Ran.{ClosesWorld, SessionsRanKeeping, records_of_all}
-use Rattle.conformance.specs.sessions.Told.{TellsKept, plainly_tinted}
+use Rattle.conformance.specs.sessions.CallSpecs.{AnswersStored, plainly_tinted}
 use Rattle.conformance.proofs.OfSessions.Items.{same_numbers, where_so}
 use Rattle.core_laws.proofs.OfTints.TintBounds.{versions_small}
 
@@ -138,14 +138,14 @@ module _ (p : Layout) (models : List Content) (log : Log) (suits : SuitsWorld tr
 
 -- the side of the world
 world_side_is : (tint : Bool) (p : Layout) (models : List Content) (log : Log)
-    → SuitsWorld tint p models log → world_side log ≡ kept_side tint (2 ^ log.side)
+    → SuitsWorld tint p models log → world_side log ≡ side_of_world tint (2 ^ log.side)
 world_side_is tint p models log suits =
-    ap (λ (c : Bool). kept_side c (2 ^ log.side)) suits.coloured
+    ap (λ (c : Bool). side_of_world c (2 ^ log.side)) suits.coloured
 
 -- its cells in the world
 pub store_keeps : (tint : Bool) (p : Layout) (models : List Content) (log : Log)
     → SuitsWorld tint p models log → (v : ℕ) (c : Cell)
-    → IsInWorld (kept_side tint (2 ^ log.side)) c
+    → IsInWorld (side_of_world tint (2 ^ log.side)) c
     → store_has models log v c ≡ world_has models log.records v c
 store_keeps false p models log suits v c i =
     versions_plain models log (plainly_suits p models log suits) v c
@@ -154,15 +154,15 @@ store_keeps true p models log suits v c i = first_plane p models log suits v c i
 -- so a box of the world has as many
 pub box_keeps : (tint : Bool) (p : Layout) (models : List Content) (log : Log)
     → SuitsWorld tint p models log → (v : ℕ) (b : Boxed)
-    → FitsAt b.at b.size (kept_side tint (2 ^ p.side))
+    → FitsAt b.at b.size (side_of_world tint (2 ^ p.side))
     → number_in b (store_has models log v) ≡ number_in b (world_has models log.records v)
 box_keeps false p models log suits v b fits =
     number_below-same b.size _ _ (λ q below.
     versions_plain models log (plainly_suits p models log suits) v
     (cell_at (b.at.x + q.x) (b.at.y + q.y) (b.at.z + q.z)))
 box_keeps true p models log suits v b fits =
-    let here : FitsAt b.at b.size (kept_side true (2 ^ log.side)) =
-    subst (λ (n : ℕ). FitsAt b.at b.size (kept_side true n)) (sym suits.keeps.side) fits
+    let here : FitsAt b.at b.size (side_of_world true (2 ^ log.side)) =
+    subst (λ (n : ℕ). FitsAt b.at b.size (side_of_world true n)) (sym suits.keeps.side) fits
     in
     number_below-same b.size _ _ (λ q below.
     first_plane p models log suits v (cell_at (b.at.x + q.x) (b.at.y + q.y) (b.at.z + q.z))
@@ -175,20 +175,20 @@ box_keeps true p models log suits v b fits =
 -- what is told of the world that it keeps is told of the world
 pub told_of_world : (tint : Bool) (p : Layout) (models : List Content) (log : Log)
     → SuitsWorld tint p models log → (v : ℕ) (question : Question) (answer : Answer)
-    → TellsKept tint (2 ^ log.side) (store_has models log v) question answer
-    → Tells (world_side log) (world_has models log.records v) (world_tint models log.records v)
+    → AnswersStored tint (2 ^ log.side) (store_has models log v) question answer
+    → AnswersTo (world_side log) (world_has models log.records v) (world_tint models log.records v)
     question answer
 told_of_world false p models log suits v question answer told =
     let plain = plainly_suits p models log suits in
-    subst (λ (side : ℕ). Tells side (world_has models log.records v)
+    subst (λ (side : ℕ). AnswersTo side (world_has models log.records v)
     (world_tint models log.records v) question answer)
     (sym (world_side_is false p models log suits))
-    (subst (λ (t : Tints). Tells (2 ^ log.side) (world_has models log.records v) t question answer)
+    (subst (λ (t : Tints). AnswersTo (2 ^ log.side) (world_has models log.records v) t question answer)
     (plain_tints models log plain v)
-    (subst (λ (w : World). Tells (2 ^ log.side) w (plainly_tinted (store_has models log v)) question
+    (subst (λ (w : World). AnswersTo (2 ^ log.side) w (plainly_tinted (store_has models log v)) question
     answer) (plain_cells models log plain v) told))
 told_of_world true p models log suits v question answer told =
-    subst (λ (side : ℕ). Tells side (world_has models log.records v)
+    subst (λ (side : ℕ). AnswersTo side (world_has models log.records v)
     (world_tint models log.records v) question answer)
     (sym (world_side_is true p models log suits))
     (told (world_has models log.records v) (world_tint models log.records v)
@@ -239,8 +239,8 @@ same_cells true p models log suits v w alike =
 -- ---- earlier histories
 
 -- records and marks go on whatever they are of
-pub goes_as : (coloured : Bool) (old new : Log) → GoesOn old new
-    → GoesOn (log_as coloured old) (log_as coloured new)
+pub goes_as : (coloured : Bool) (old new : Log) → ExtendsLog old new
+    → ExtendsLog (log_as coloured old) (log_as coloured new)
 goes_as coloured old new g = record {
   side = g.side;
   coloured = refl;
@@ -249,7 +249,7 @@ goes_as coloured old new g = record {
   marks = g.marks;
 }
 
-all_before : (P : Record → Type 0) (old new : Log) → GoesOn old new → All P new.records
+all_before : (P : Record → Type 0) (old new : Log) → ExtendsLog old new → All P new.records
     → All P old.records
 all_before P old new g all i d lt =
     let wide = longer old new g in
@@ -258,7 +258,7 @@ all_before P old new g all i d lt =
 
 -- a history that goes on keeps tints as the earlier does
 keeps_before : (tint : Bool) (p : Layout) (models : List Content) (old new : Log)
-    → GoesOn old new → MayKeep tint p models new → MayKeep tint p models old
+    → ExtendsLog old new → MayKeep tint p models new → MayKeep tint p models old
 keeps_before false p models old new g keeps = tt
 keeps_before true p models old new g keeps = record {
   side = ap (λ (n : ℕ). 2 ^ n) (sym g.side) ∙ keeps.side;
@@ -267,7 +267,7 @@ keeps_before true p models old new g keeps = record {
 }
 
 pub suits_before : (tint : Bool) (p : Layout) (models : List Content) (old new : Log)
-    → GoesOn old new → SuitsWorld tint p models new → SuitsWorld tint p models old
+    → ExtendsLog old new → SuitsWorld tint p models new → SuitsWorld tint p models old
 suits_before tint p models old new g suits = record {
   coloured = sym g.coloured ∙ suits.coloured;
   acts = subst (λ (c : Bool). All (λ r. suits_tints c r.act ≡ true) old.records) g.coloured
@@ -292,7 +292,7 @@ may_tint false p models log keeps = tt
 may_tint true p models log keeps = keeps.can
 
 -- a whole history that a view allows
-pub whole_suits : (of : SessionOf) (s : SessionSeen) (whole : Log) → AllowsWhole of s whole
+pub whole_suits : (of : SessionOf) (s : SessionView) (whole : Log) → AllowsWhole of s whole
     → SuitsWorld of.tint of.plan of.models whole
 whole_suits of s whole is = record {
   coloured = is.coloured;
@@ -301,7 +301,7 @@ whole_suits of s whole is = record {
 }
 
 -- what a session saw of a store's version is what the store has
-pub store_stays : (models : List Content) (old new : Log) (v : ℕ) → GoesOn old new
+pub store_stays : (models : List Content) (old new : Log) (v : ℕ) → ExtendsLog old new
     → v ≤ length old.records → store_has models new v ≡ store_has models old v
 store_stays models old new v g le =
     (λ i. stored_in (2 ^ (g.side i)) models (g.records i) v)
@@ -334,7 +334,7 @@ command_suits tint side models Head fits = tt
 
 all_suit : (keep : ℕ) (tint : Bool) (p : Layout) (models : List Content) (first : ℕ)
     (scripts : List (List ScriptLine)) (transcripts : List (List LineAnswer))
-    (sessions : List SessionSeen)
+    (sessions : List SessionView)
     → SessionsRanKeeping keep tint p models first scripts transcripts sessions
     → All (DoneSuits tint) (records_of_all sessions)
 all_suit keep tint p models first [] [] [] ran = All-nil (DoneSuits tint)
@@ -360,7 +360,7 @@ numbered_suit tint n (r ∷ more) all =
 -- so do all acts of a history of sessions whose own do
 acts_suit : (keep : ℕ) (tint : Bool) (p : Layout) (models : List Content)
     (scripts : List (List ScriptLine)) (transcripts : List (List LineAnswer))
-    (sessions : List SessionSeen) (log : Log)
+    (sessions : List SessionView) (log : Log)
     → SessionsRanKeeping keep tint p models 0 scripts transcripts sessions
     → SameItems (numbered 1 log.records) (records_of_all sessions)
     → All (λ r. suits_tints tint r.act ≡ true) log.records
@@ -378,7 +378,7 @@ acts_suit keep tint p models scripts transcripts sessions log ran same =
 -- and it suits its world, where that was closed
 pub history_suits : (keep : ℕ) (tint : Bool) (p : Layout) (models : List Content)
     (scripts : List (List ScriptLine)) (transcripts : List (List LineAnswer))
-    (sessions : List SessionSeen) (log : Log)
+    (sessions : List SessionView) (log : Log)
     → SessionsRanKeeping keep tint p models 0 scripts transcripts sessions
     → ClosesWorld tint p models sessions log → SuitsWorld tint p models log
 history_suits keep tint p models scripts transcripts sessions log ran closes = record {

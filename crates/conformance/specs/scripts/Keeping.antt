@@ -12,7 +12,7 @@ use Rattle.node_words.specs.shapes.Shape.{Shape, Clear, ShowsCells, IsCanonical,
 use Rattle.node_words.specs.shapes.Buckets.{bucket_of_shape}
 use Rattle.node_words.specs.Enough.{HasEnough}
 use Rattle.node_words.specs.Gathering.{Grew}
-use Rattle.node_words.specs.Held.{Wanted, Seen, IsSought}
+use Rattle.node_words.specs.Held.{Wanted, StoreState, IsSought}
 use Rattle.node_words.specs.Plans.{Layout}
 use Rattle.core_laws.specs.contents.Aligned.{top, world_block}
 use Rattle.conformance.specs.possible.Needed.{Span, made_of}
@@ -27,7 +27,7 @@ pub record MadeAndMet : Type 0 where
   pub made : List Shape
   pub met : List Wanted
 
-abbrev pub made_and_met : Seen → MadeAndMet
+abbrev pub made_and_met : StoreState → MadeAndMet
 made_and_met seen = record { made = seen.made; met = seen.met }
 
 -- each bucket that was full had enough entries
@@ -61,7 +61,8 @@ pub record IsPlainTarget (p : Layout) (models : List Content) (records : List Re
       (edited models act (stored_in (2 ^ p.side) models records version))
 
 -- such shapes may have been made, and one met this full bucket, which is its own
-pub record MeetsFull (Wants : Shape → Type 0) (level bucket : ℕ) (old new : Seen) : Type 0 where
+pub record MeetsFull (Wants : Shape → Type 0) (level bucket : ℕ)
+    (old new : StoreState) : Type 0 where
   pub plan : new.plan ≡ old.plan
   pub made : Grew Wants old.made new.made
   pub wanted : Shape

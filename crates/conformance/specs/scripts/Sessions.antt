@@ -26,9 +26,9 @@ pub record TakesLine (p : Layout) (models : List Content) (session first : ℕ) 
   pub makes : LineMakes p models first l a new.records made now
 
 -- whatever has run so far, the next line of the session goes on from it
-abbrev pub GoesOnWith : Layout → List Content → ℕ → ScriptLine → Log → Log → MadeAndMet
+abbrev pub ExtendsWith : Layout → List Content → ℕ → ScriptLine → Log → Log → MadeAndMet
     → MadeAndMet → LineAnswer → Type 0
-GoesOnWith p models session l old new made now a =
+ExtendsWith p models session l old new made now a =
     (scripts : List (List ScriptLine)) (transcripts : List (List LineAnswer))
     (script : List ScriptLine) (transcript : List LineAnswer)
     → IsRunning p models scripts transcripts script transcript old made

@@ -1,5 +1,5 @@
--- What each arm of a desk has to show, by what it did: a change was accepted and became a record,
--- a version was forgotten, a change met a full bucket, or nothing changed.
+-- What each arm of a responder has to show, by what it did: a change was accepted and became a
+-- record, a version was forgotten, a change met a full bucket, or nothing changed.
 use Rattle.std.specs.Prelude.{◌≡◌, ℕ, ◌+◌, ◌^◌, ◌≤◌, Bool, true, List, [], length}
 use Rattle.vox_read.specs.Contents.{Content}
 use Rattle.history_model.specs.declared.acts.Act.{Act}
@@ -9,14 +9,14 @@ use Rattle.history_model.specs.Logs.{Log, IsLegal}
 use Rattle.history_model.specs.Worlds.{is_edit}
 use Rattle.node_words.specs.shapes.Shape.{Shape, IsPart}
 use Rattle.node_words.specs.Gathering.{Grew, Fails}
-use Rattle.node_words.specs.Held.{Seen}
+use Rattle.node_words.specs.Held.{StoreState}
 use Rattle.node_words.specs.Plans.{Layout}
 use Rattle.script.specs.declared.commands.Command.TheVariants.{Edit, Forget}
 use Rattle.script.specs.declared.commands.ScriptLine.{ScriptLine}
 use Rattle.transcript.specs.declared.answers.Answer.{Answer}
 use Rattle.transcript.specs.declared.answers.Answer.TheVariants as answers
 use Rattle.transcript.specs.declared.answers.LineAnswer.{LineAnswer}
-use Rattle.conformance.specs.Answers.{IsStanding, Answers}
+use Rattle.conformance.specs.Answers.{IsUnforgotten, Answers}
 use Rattle.conformance.specs.Kinds.{is_resting, answer_at}
 use Rattle.conformance.specs.Refusing.{refused_by}
 use Rattle.conformance.specs.Running.{GrowsByRecord, ForgetsBy}
@@ -54,7 +54,7 @@ ForgettingsTakeLines = (p : Layout) (models : List Content) (first : ℕ) (mark 
 -- an edit of the newest version met a full bucket
 abbrev pub FullBucketsTakeLines : Type 0
 FullBucketsTakeLines = (p : Layout) (models : List Content) (session first line : ℕ) (act : Act)
-    (once : Bool) (level bucket : ℕ) (log : Log) (old new : Seen)
+    (once : Bool) (level bucket : ℕ) (log : Log) (old new : StoreState)
     → IsLegal (2 ^ p.side) models log → old.plan ≡ p → first ≤ length log.records
     → MeetsFull (IsWanted p models log.records act (length log.records)) level bucket old new
     → TakesLine p models session first (record { line = line; command = Edit act once }) log log
@@ -79,7 +79,8 @@ RestingAnswersTakeLines = (p : Layout) (models : List Content) (session first : 
     (log : Log) (answer : Answer) (noted : MadeAndMet)
     → IsLegal (2 ^ p.side) models log → is_resting answer ≡ true
     → refused_by l.command (length log.records) answer ≡ []
-    → Answers p models log (IsStanding log.marks session l.line (length log.records)) session l.line
+    → Answers p models log
+    (IsUnforgotten log.marks session l.line (length log.records)) session l.line
     (length log.records) l.command answer
     → TakesLine p models session first l log log noted noted
     (answer_at l (length log.records) answer)
@@ -102,6 +103,6 @@ PlainTargetsAreWanted = (p : Layout) (models : List Content) (records : List Rec
 -- and a part of its target that met a full bucket is one that it wants
 abbrev pub PlainFailuresMeetFull : Type 0
 PlainFailuresMeetFull = (p : Layout) (models : List Content) (records : List Record) (act : Act)
-    (version : ℕ) (target : Shape) (level bucket : ℕ) (old new : Seen)
+    (version : ℕ) (target : Shape) (level bucket : ℕ) (old new : StoreState)
     → IsPlainTarget p models records act version target → Fails target level bucket old new
     → MeetsFull (IsWanted p models records act version) level bucket old new

@@ -8,33 +8,33 @@ use Rattle.node_words.specs.shapes.Shape.{Shape}
 use Rattle.node_words.specs.Held.{Wanted, IsSought}
 use Rattle.node_words.specs.Plans.{Layout}
 use Rattle.core_laws.specs.contents.Versions.{IsUnmarked}
-use Rattle.conformance.specs.Answers.{IsRecordOf, GoesOn, mark_of}
+use Rattle.conformance.specs.Answers.{IsRecordOf, ExtendsLog, mark_of}
 use Rattle.conformance.specs.Shown.{Accepted}
 use Rattle.conformance.specs.scripts.Keeping.{IsWanted, MakesPart}
 use Rattle.retain.specs.Retained.{falls_out}
-use Rattle.conformance.specs.sessions.Seen.{SessionSeen}
+use Rattle.conformance.specs.sessions.SessionViews.{SessionView}
 use Rattle.conformance.specs.sessions.Fallen.{PushesOut}
 
 -- of the marks that the session of this number has seen, its own are those that it lists, and each
 -- was made at a length that it has seen
-pub record KnowsOwn (session : ℕ) (s : SessionSeen) : Type 0 where
+pub record KnowsOwn (session : ℕ) (s : SessionView) : Type 0 where
   pub own : All (λ m. m.session ≡ session → Contains s.marks m) s.log.marks
   pub listed : All (Contains s.log.marks) s.marks
   pub dated : All (λ m. (m.version < m.at) × (m.at ≤ length s.log.records)) s.log.marks
 
 -- it has seen the history go on, and found no fewer versions
-pub record FollowsHistory (old new : SessionSeen) : Type 0 where
-  pub goes_on : GoesOn old.log new.log
+pub record FollowsHistory (old new : SessionView) : Type 0 where
+  pub goes_on : ExtendsLog old.log new.log
   pub found : All (Contains new.found) old.found
 
 -- and nothing of its own was accepted
-pub record AcceptsNothing (old new : SessionSeen) : Type 0 where
+pub record AcceptsNothing (old new : SessionView) : Type 0 where
   pub sees : FollowsHistory old new
   pub records : new.records ≡ old.records
   pub marks : new.marks ≡ old.marks
 
 -- and nothing was made or met for it either
-pub record OnlySees (old new : SessionSeen) : Type 0 where
+pub record OnlySees (old new : SessionView) : Type 0 where
   pub nothing : AcceptsNothing old new
   pub noted : new.noted ≡ old.noted
 
@@ -44,7 +44,7 @@ numbered_change n session line act = record
 
 -- its change became the newest record, and the version that falls out of the last `keep` then has
 -- a mark
-pub record AppendsOwn (keep session line : ℕ) (act : Act) (old new : SessionSeen) : Type 0 where
+pub record AppendsOwn (keep session line : ℕ) (act : Act) (old new : SessionView) : Type 0 where
   pub sees : FollowsHistory old new
   pub longer : length old.log.records < length new.log.records
   pub last : IsRecordOf new.log.records (length new.log.records) session line act
@@ -54,7 +54,7 @@ pub record AppendsOwn (keep session line : ℕ) (act : Act) (old new : SessionSe
       (numbered_change (length new.log.records) session line act) old.marks new
 
 -- it forgot a version, at the length that it has seen
-pub record ForgetsOwn (session line version : ℕ) (old new : SessionSeen) : Type 0 where
+pub record ForgetsOwn (session line version : ℕ) (old new : SessionView) : Type 0 where
   pub sees : FollowsHistory old new
   pub records : new.records ≡ old.records
   pub marks : new.marks ≡ mark_of version (length new.log.records) session line ∷ old.marks
@@ -64,7 +64,7 @@ pub record ForgetsOwn (session line version : ℕ) (old new : SessionSeen) : Typ
 -- each shape that was made or wanted of a full bucket is one that the act wants of a version
 -- between the lengths that were seen before and after; so for an undo or a redo there is none
 pub record NotesFor (p : Layout) (models : List Content) (act : Act)
-    (old new : SessionSeen) : Type 0 where
+    (old new : SessionView) : Type 0 where
   pub more : List Shape
   pub made : new.noted.made ≡ more ++ old.noted.made
   pub parts : All (MakesPart p models new.log.records act (length old.log.records)
@@ -76,7 +76,7 @@ pub record NotesFor (p : Layout) (models : List Content) (act : Act)
 
 -- and one that was wanted of this full bucket is one that the act wants of the newest version
 pub record MeetsFullBucket (p : Layout) (models : List Content) (act : Act) (level bucket : ℕ)
-    (old new : SessionSeen) : Type 0 where
+    (old new : SessionView) : Type 0 where
   pub notes : NotesFor p models act old new
   pub shape : Shape
   pub listed : Contains notes.further
@@ -85,13 +85,13 @@ pub record MeetsFullBucket (p : Layout) (models : List Content) (act : Act) (lev
   pub wanted : IsWanted p models new.log.records act (length new.log.records) shape
 
 -- the version is there, and was found without a mark at the length that was seen
-pub record FindsVersion (s : SessionSeen) (version : ℕ) : Type 0 where
+pub record FindsVersion (s : SessionView) (version : ℕ) : Type 0 where
   pub there : version ≤ length s.log.records
   pub unmarked : IsUnmarked s.log.marks version
   pub listed : Contains s.found (record { version = version; at = length s.log.records })
 
 -- a mark of the version was seen
-pub record SeesForgotten (s : SessionSeen) (version : ℕ) : Type 0 where
+pub record SeesForgotten (s : SessionView) (version : ℕ) : Type 0 where
   pub mark : Mark
   pub listed : Contains s.log.marks mark
   pub same : mark.version ≡ version

@@ -10,12 +10,12 @@ use Rattle.node_words.specs.Plans.{Layout}
 use Rattle.script.specs.declared.commands.ScriptLine.{ScriptLine}
 use Rattle.transcript.specs.declared.answers.LineAnswer.{LineAnswer}
 use Rattle.conformance.specs.Agreeing.{InOrder}
-use Rattle.conformance.specs.Answers.{LineFits, GoesOn}
+use Rattle.conformance.specs.Answers.{LineFits, ExtendsLog}
 use Rattle.conformance.specs.Passes.{Found}
 use Rattle.conformance.specs.Saves.{saved_in}
 use Rattle.conformance.specs.Shown.{Accepted, SameItems, numbered, accepted_in, forgotten_in}
 use Rattle.conformance.specs.scripts.Keeping.{MadeAndMet, HaveEnough}
-use Rattle.conformance.specs.sessions.Seen.{SessionOf, SessionSeen, SeesSuited, MayTint, log_as, IsStill, AllowsWhole, none_noted, session_keeping}
+use Rattle.conformance.specs.sessions.SessionViews.{SessionOf, SessionView, SeesSuited, MayTint, log_as, IsStill, AllowsWhole, none_noted, session_keeping}
 use Rattle.conformance.specs.sessions.Fallen.{OwnMarks}
 use Rattle.conformance.specs.sessions.Notes.{LinesNote}
 
@@ -30,7 +30,7 @@ pub record IsAnswered (n : ℕ) (l : ScriptLine) (a : LineAnswer) : Type 0 where
 -- out, too; its own records suit the world; line by line, what was made and met; and where what it
 -- saw suits the world, what it saved are versions that it has seen
 pub record SessionRan (of : SessionOf) (script : List ScriptLine) (answers : List LineAnswer)
-    (before : MadeAndMet) (s : SessionSeen) : Type 0 where
+    (before : MadeAndMet) (s : SessionView) : Type 0 where
   pub lines : AllZip (IsAnswered (length s.log.records)) script answers
   pub moments : AllPairs InOrder answers
   pub fit : (whole : Log) → AllowsWhole of s whole
@@ -44,7 +44,7 @@ pub record SessionRan (of : SessionOf) (script : List ScriptLine) (answers : Lis
 
 -- all sessions from this one on ran their scripts, each from nothing
 abbrev pub SessionsRanKeeping : ℕ → Bool → Layout → List Content → ℕ → List (List ScriptLine)
-    → List (List LineAnswer) → List SessionSeen → Type 0
+    → List (List LineAnswer) → List SessionView → Type 0
 SessionsRanKeeping keep tint p models session [] [] [] = ⊤
 SessionsRanKeeping keep tint p models session (script ∷ scripts) (answers ∷ transcripts)
     (s ∷ sessions) =
@@ -54,28 +54,28 @@ SessionsRanKeeping keep tint p models session _ _ _ = ⊥
 
 -- where all versions are held
 abbrev pub SessionsRan : Bool → Layout → List Content → ℕ → List (List ScriptLine)
-    → List (List LineAnswer) → List SessionSeen → Type 0
+    → List (List LineAnswer) → List SessionView → Type 0
 SessionsRan tint p models session scripts transcripts sessions =
     SessionsRanKeeping 0 tint p models session scripts transcripts sessions
 
 -- what all sessions did and noted
-abbrev pub records_of_all : List SessionSeen → List Accepted
+abbrev pub records_of_all : List SessionView → List Accepted
 records_of_all [] = []
 records_of_all (s ∷ sessions) = s.records ++ records_of_all sessions
 
-abbrev pub marks_of_all : List SessionSeen → List Mark
+abbrev pub marks_of_all : List SessionView → List Mark
 marks_of_all [] = []
 marks_of_all (s ∷ sessions) = s.marks ++ marks_of_all sessions
 
-abbrev pub made_of_all : List SessionSeen → List Shape
+abbrev pub made_of_all : List SessionView → List Shape
 made_of_all [] = []
 made_of_all (s ∷ sessions) = s.noted.made ++ made_of_all sessions
 
-abbrev pub met_of_all : List SessionSeen → List Wanted
+abbrev pub met_of_all : List SessionView → List Wanted
 met_of_all [] = []
 met_of_all (s ∷ sessions) = s.noted.met ++ met_of_all sessions
 
-abbrev pub noted_of_all : List SessionSeen → MadeAndMet
+abbrev pub noted_of_all : List SessionView → MadeAndMet
 noted_of_all sessions = record { made = made_of_all sessions; met = met_of_all sessions }
 
 -- the pair is of a length that the history has reached, and no mark forgets the version below it
@@ -88,11 +88,11 @@ pub record StillFound (log : Log) (f : Found) : Type 0 where
 -- version before a session found it; its records and marks are those of the sessions, each once;
 -- and of whatever met a full bucket, the sessions together made enough
 pub record ClosesWorld (tint : Bool) (p : Layout) (models : List Content)
-    (sessions : List SessionSeen) (log : Log) : Type 0 where
+    (sessions : List SessionView) (log : Log) : Type 0 where
   pub legal : IsLegal (2 ^ p.side) models log
   pub may : MayTint tint p models
   pub coloured : log.coloured ≡ tint
-  pub seen : All (λ s. GoesOn (log_as tint s.log) log) sessions
+  pub seen : All (λ s. ExtendsLog (log_as tint s.log) log) sessions
   pub found : All (λ s. All (StillFound log) s.found) sessions
   pub records : SameItems (numbered 1 log.records) (records_of_all sessions)
   pub marks : SameItems log.marks (marks_of_all sessions)

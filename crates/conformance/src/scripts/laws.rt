@@ -4,7 +4,7 @@ ghost use Rattle.conformance.specs.scripts.Statements.{ForgettingsTakeLines, Ful
 ghost use Rattle.conformance.specs.scripts.Statements.{RestingAnswersTakeLines, MomentsAreInHistory};
 ghost use Rattle.conformance.specs.scripts.Statements.{PlainTargetsAreWanted, PlainFailuresMeetFull};
 
-/// What each arm of a desk has to show to go on with a line, by what it did.
+/// What each arm of a responder has to show to go on with a line, by what it did.
 pub fn arms_take_lines()
     ensures rebuilt { RebuiltEditsTakeLines }
     ensures undone { UndosTakeLines }

@@ -1,11 +1,11 @@
 ghost use Rattle.std.specs.Prelude.{◌≡◌, ◌+◌, ◌++◌, ◌^◌, ◌≤◌, [], true, ℕ, List};
-ghost use Rattle.history_model.specs.Logs.{kept_side};
+ghost use Rattle.history_model.specs.Logs.{side_of_world};
 ghost use Rattle.history_model.specs.Worlds.{is_edit};
 ghost use Rattle.script.specs.Fitting.{EditFits, QuestionFits, SaveFits};
 ghost use Rattle.conformance.specs.sessions.Calls.{KnowsOwn};
 ghost use Rattle.conformance.specs.sessions.Saves.{version_saved};
-ghost use Rattle.conformance.specs.sessions.Seen.{SessionOf, SessionSeen};
-ghost use Rattle.conformance.specs.sessions.Told.{ActTold, OnceTold, AskTold, SaveTold, ForgetTold, SameTold, HeadTold};
+ghost use Rattle.conformance.specs.sessions.SessionViews.{SessionOf, SessionView};
+ghost use Rattle.conformance.specs.sessions.CallSpecs.{ActSpec, OnceSpec, AskSpec, SaveSpec, ForgetSpec, SameSpec, HeadSpec};
 
 use history_model::{Act, Mark, Question};
 use node_words::Full;
@@ -66,7 +66,7 @@ pub struct SavedAt {
 pub trait SessionCalls {
     ghost of: { Self → SessionOf };
 
-    ghost seen: { Self → SessionSeen };
+    ghost seen: { Self → SessionView };
 
     ghost saved: { Self → List ℕ };
 
@@ -85,7 +85,7 @@ pub trait SessionCalls {
         requires stands { stands self.old }
         ensures stands { stands self.new }
         ensures of { of self.new ≡ of self.old }
-        ensures told { ActTold (of self.old) line act (seen self.old) (seen self.new) result }
+        ensures told { ActSpec (of self.old) line act (seen self.old) (seen self.new) result }
         ensures knows { KnowsOwn (of self.old).number (seen self.new) }
         ensures saved { saved self.new ≡ saved self.old }
         ensures room { room self.new ≡ room self.old }
@@ -99,7 +99,7 @@ pub trait SessionCalls {
         requires stands { stands self.old }
         ensures stands { stands self.new }
         ensures of { of self.new ≡ of self.old }
-        ensures told { OnceTold (of self.old) line act (seen self.old) (seen self.new) result }
+        ensures told { OnceSpec (of self.old) line act (seen self.old) (seen self.new) result }
         ensures knows { KnowsOwn (of self.old).number (seen self.new) }
         ensures saved { saved self.new ≡ saved self.old }
         ensures room { room self.new ≡ room self.old }
@@ -108,11 +108,11 @@ pub trait SessionCalls {
     /// Answers the question of this version, or of the newest.
     fn ask(&mut self, version: Option<u32>, question: Question) -> Result<AskedAt, PinRefused>
         requires fits { QuestionFits
-            (kept_side (of self.old).tint (2 ^ (of self.old).plan.side)) question }
+            (side_of_world (of self.old).tint (2 ^ (of self.old).plan.side)) question }
         requires stands { stands self.old }
         ensures stands { stands self.new }
         ensures of { of self.new ≡ of self.old }
-        ensures told { AskTold (of self.old) version question (seen self.old) (seen self.new)
+        ensures told { AskSpec (of self.old) version question (seen self.old) (seen self.new)
             result }
         ensures knows { KnowsOwn (of self.old).number (seen self.new) }
         ensures saved { saved self.new ≡ saved self.old }
@@ -127,12 +127,12 @@ pub trait SessionCalls {
         part: Boxed,
     ) -> Result<SavedAt, PinRefused>
         requires fits { SaveFits
-            (kept_side (of self.old).tint (2 ^ (of self.old).plan.side)) name part }
+            (side_of_world (of self.old).tint (2 ^ (of self.old).plan.side)) name part }
         requires room { 1 ≤ room self.old }
         requires stands { stands self.old }
         ensures stands { stands self.new }
         ensures of { of self.new ≡ of self.old }
-        ensures told { SaveTold (of self.old) version part (seen self.old) (seen self.new) result }
+        ensures told { SaveSpec (of self.old) version part (seen self.old) (seen self.new) result }
         ensures knows { KnowsOwn (of self.old).number (seen self.new) }
         ensures saved { saved self.new ≡ saved self.old ++ version_saved version result }
         ensures room { room self.old ≤ room self.new + 1 }
@@ -143,7 +143,7 @@ pub trait SessionCalls {
         requires stands { stands self.old }
         ensures stands { stands self.new }
         ensures of { of self.new ≡ of self.old }
-        ensures told { ForgetTold (of self.old) line version (seen self.old) (seen self.new)
+        ensures told { ForgetSpec (of self.old) line version (seen self.old) (seen self.new)
             result }
         ensures knows { KnowsOwn (of self.old).number (seen self.new) }
         ensures saved { saved self.new ≡ saved self.old }
@@ -155,7 +155,7 @@ pub trait SessionCalls {
         requires stands { stands self.old }
         ensures stands { stands self.new }
         ensures of { of self.new ≡ of self.old }
-        ensures told { SameTold (of self.old) v w (seen self.old) (seen self.new) result }
+        ensures told { SameSpec (of self.old) v w (seen self.old) (seen self.new) result }
         ensures knows { KnowsOwn (of self.old).number (seen self.new) }
         ensures saved { saved self.new ≡ saved self.old }
         ensures room { room self.new ≡ room self.old }
@@ -166,7 +166,7 @@ pub trait SessionCalls {
         requires stands { stands self.old }
         ensures stands { stands self.new }
         ensures of { of self.new ≡ of self.old }
-        ensures told { HeadTold (seen self.old) (seen self.new) result }
+        ensures told { HeadSpec (seen self.old) (seen self.new) result }
         ensures knows { KnowsOwn (of self.old).number (seen self.new) }
         ensures saved { saved self.new ≡ saved self.old }
         ensures room { room self.new ≡ room self.old }

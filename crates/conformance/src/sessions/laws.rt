@@ -5,7 +5,7 @@ ghost use Rattle.conformance.specs.sessions.Statements.{AcceptedActsTakeLines, M
 ghost use Rattle.conformance.specs.sessions.Statements.{StaleTriesTakeLines, RefusedActsTakeLines};
 ghost use Rattle.conformance.specs.sessions.Statements.{ForgottenVersionsTakeLines, RestingLinesTakeLines};
 ghost use Rattle.conformance.specs.sessions.Statements.{FoundVersionsAreReadable};
-ghost use Rattle.conformance.specs.sessions.Statements.{SeenMarksForget, FoundTargetsAreWays};
+ghost use Rattle.conformance.specs.sessions.Statements.{SeenMarksForget, FoundTargetsAreReadable};
 
 /// What sessions tell and what their closed world tells is together what a run of their scripts
 /// gives.
@@ -32,5 +32,5 @@ pub fn calls_take_lines()
     ensures rests { RestingLinesTakeLines }
     ensures readable { FoundVersionsAreReadable }
     ensures forgotten { SeenMarksForget }
-    ensures ways { FoundTargetsAreWays }
+    ensures ways { FoundTargetsAreReadable }
 {}

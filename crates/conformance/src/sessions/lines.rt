@@ -5,7 +5,7 @@ ghost use Rattle.script.specs.Fitting.{CommandFits};
 ghost use Rattle.conformance.specs.Saves.{saved_by};
 ghost use Rattle.conformance.specs.sessions.Lines.{AreEarlier, AnswersLine};
 ghost use Rattle.conformance.specs.sessions.Saves.{saves_asked, versions_of};
-ghost use Rattle.conformance.specs.sessions.Told.{act_line, once_line, ask_line, save_line, forget_line, same_line, pin_line, named_version};
+ghost use Rattle.conformance.specs.sessions.CallSpecs.{act_line, once_line, ask_line, save_line, forget_line, same_line, pin_line, named_version};
 
 use crate::sessions::calls::{ActAnswer, AskedAt, OnceAnswer, SavedAt, SessionCalls};
 use history_model::Act;

@@ -10,7 +10,7 @@ use Rattle.history_model.specs.declared.histories.Record.{Record}
 use Rattle.history_model.specs.declared.histories.Mark.{Mark}
 use Rattle.history_model.specs.Positions.{Position, next_position}
 use Rattle.history_model.specs.Logs.{IsVersionHeld, HasTarget, MayFollow, MayFollowFrom}
-use Rattle.core_laws.specs.contents.Versions.{MarkComes, IsUnmarked}
+use Rattle.core_laws.specs.contents.Versions.{InsertsMark, IsUnmarked}
 
 -- what holds of each element holds of each with one more in the middle
 All-put : {X : Type 0} (P : X → Type 0) (xs ys : List X) (x : X) → All P (xs ++ ys) → P x
@@ -41,7 +41,7 @@ AllPairs-put R (w ∷ xs) ys x pairs lower higher =
     (AllPairs-put R xs ys x (λ i j d low high. pairs (suc i) (suc j) d (omega arith) (omega arith))
     (All-tail (λ v. R v x) w xs lower) higher)
 
-module _ (old new : List Mark) (mark : Mark) (comes : MarkComes old mark new) where
+module _ (old new : List Mark) (mark : Mark) (comes : InsertsMark old mark new) where
   -- what holds of each old mark and of the new one holds of each
   pub each_mark : (P : Mark → Type 0) → All P old → P mark → All P new
   each_mark P all here =
@@ -106,7 +106,7 @@ follow_stays marks more n at (r ∷ records) held follow = (
 -- a mark at the last record or later forgets no target of theirs
 pub marks_follow : (old new : List Mark) (mark : Mark) (n : ℕ) (at : Position)
     (records : List Record)
-    → MarkComes old mark new → n + length records ≤ mark.at + 1 → MayFollowFrom old n at records
+    → InsertsMark old mark new → n + length records ≤ mark.at + 1 → MayFollowFrom old n at records
     → MayFollowFrom new n at records
 marks_follow old new mark n at records comes late follow =
     follow_stays old new n at records

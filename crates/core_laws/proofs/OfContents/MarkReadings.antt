@@ -6,7 +6,7 @@ use Rattle.std.proofs.lemmas.List.{append-nil}
 use Rattle.std.proofs.lemmas.List.Elements.{All-nil, All-push, All-weaker}
 use Rattle.history_model.specs.declared.histories.Mark.{Mark}
 use Rattle.core_laws.specs.contents.MarkLists.{with_mark, marks_below, AreOfVersions, GetsMark}
-use Rattle.core_laws.specs.contents.Versions.{MarkComes}
+use Rattle.core_laws.specs.contents.Versions.{InsertsMark}
 
 push_lower : (n : ℕ) (marks : List Mark) (o : Option Mark) → All (λ m. m.version < n) marks
     → ((m : Mark) → o ≡ Some m → m.version ≡ n) → All (λ m. m.version < suc n) (with_mark marks o)
@@ -30,9 +30,9 @@ below_same f g zero same = refl
 below_same f g (suc n) same =
     λ i. with_mark (below_same f g n (λ v lt. same v (omega arith)) i) (same n (omega arith) i)
 
-push_comes : (old new : List Mark) (mark : Mark) (o : Option Mark) → MarkComes old mark new
+push_comes : (old new : List Mark) (mark : Mark) (o : Option Mark) → InsertsMark old mark new
     → ((m : Mark) → o ≡ Some m → mark.version < m.version)
-    → MarkComes (with_mark old o) mark (with_mark new o)
+    → InsertsMark (with_mark old o) mark (with_mark new o)
 push_comes old new mark None r higher = r
 push_comes old new mark (Some m) r higher = record {
   before = r.before;
@@ -45,7 +45,7 @@ push_comes old new mark (Some m) r higher = record {
 
 pub mark_comes : (f g : ℕ → Option Mark) (mark : Mark) (n : ℕ) → mark.version < n
     → GetsMark f mark g
-    → AreOfVersions f → MarkComes (marks_below f n) mark (marks_below g n)
+    → AreOfVersions f → InsertsMark (marks_below f n) mark (marks_below g n)
 unfolding marks_below
 mark_comes f g mark zero lt gets of = absurd (omega arith)
 mark_comes f g mark (suc n) lt gets of = elim (cases_eq mark.version n) [
@@ -66,10 +66,10 @@ mark_comes f g mark (suc n) lt gets of = elim (cases_eq mark.version n) [
     higher = All-nil (λ m. mark.version < m.version);
   }
   | inr other ↦
-      (let r : MarkComes (marks_below f n) mark (marks_below g n) =
+      (let r : InsertsMark (marks_below f n) mark (marks_below g n) =
       mark_comes f g mark n (omega arith) gets of in
       let here : g n ≡ f n = gets.others n (λ e. other (sym e)) in
-      subst (λ (o : Option Mark). MarkComes (with_mark (marks_below f n) (f n)) mark
+      subst (λ (o : Option Mark). InsertsMark (with_mark (marks_below f n) (f n)) mark
       (with_mark (marks_below g n) o))
       (sym here)
       (push_comes (marks_below f n) (marks_below g n) mark (f n) r

@@ -4,7 +4,7 @@ use Rattle.std.proofs.lemmas.Bool.{cases_order}
 use Rattle.std.proofs.lemmas.Nat.{mul-add-lt, same_from_place}
 use Rattle.node_words.specs.Sums.{sum_below, sum_below-suc}
 use Rattle.node_words.specs.Plans.{Layout}
-use Rattle.core_laws.specs.places.Spots.{Spot, Sessions, LogTurn, LogLength, Version, Turn, Used, Key, Book, place, width, IsSpot, IsSlot, levels, buckets_at, head_words, bucket_words, level_words, key_words, first_bucket, word_place, version_words, versions}
+use Rattle.core_laws.specs.places.WordIds.{WordId, Sessions, LogTurn, LogLength, Version, Turn, Used, Key, Book, place, width, IsWordId, IsSlot, levels, buckets_at, head_words, bucket_words, level_words, key_words, first_bucket, word_place, version_words, versions}
 use Rattle.core_laws.proofs.OfPlaces.Lines.{lines_low}
 
 -- a longer sum is no less
@@ -90,7 +90,7 @@ word_low p l b i is =
     (in_level p l b i is) in
     omega (arith, ends)
 
-pub place_low : (p : Layout) (s : Spot) → IsSpot p s → place p s < width p
+pub place_low : (p : Layout) (s : WordId) → IsWordId p s → place p s < width p
 place_low p Sessions is = omega arith
 place_low p LogTurn is = omega arith
 place_low p LogLength is = omega arith
@@ -140,7 +140,7 @@ same_key p l b s k l' b' s' k' is of_k is' of_k' e =
     let inner = same_from_place s k s' k' (key_words l) of_k small same in
     rw (w.level, w.bucket, inner.0, inner.1) refl
 
-pub place_one : (p : Layout) (s t : Spot) → IsSpot p s → IsSpot p t → place p s ≡ place p t → s ≡ t
+pub place_one : (p : Layout) (s t : WordId) → IsWordId p s → IsWordId p t → place p s ≡ place p t → s ≡ t
 place_one p Sessions Sessions of_s of_t e = refl
 place_one p Sessions LogTurn of_s of_t e = absurd (omega (arith, e))
 place_one p Sessions LogLength of_s of_t e = absurd (omega (arith, e))

@@ -8,7 +8,7 @@ use Rattle.node_words.specs.declared.keys.Key.{Key}
 use Rattle.node_words.specs.declared.keys.Key.TheVariants.{Leaf, Node}
 use Rattle.node_words.specs.Held.{name_in}
 use Rattle.core_laws.specs.places.Words.{word_of_child, IsChildAt}
-use Rattle.core_laws.specs.places.Spots.{key_words}
+use Rattle.core_laws.specs.places.WordIds.{key_words}
 use Rattle.core_laws.specs.places.KeyWords.{child_of_word, half, children_of_words, key_of_words, key_word, FitsHalf, IsKeyAt}
 use Rattle.core_laws.proofs.OfPlaces.Children.{one_child}
 

@@ -2,7 +2,7 @@
 use Rattle.std.proofs.Common.{◌≡◌, ◌≢◌, ℕ, zero, suc, ◌+◌, ◌*◌, ◌^◌, ◌<◌, ◌≤◌, refl, arith}
 use Rattle.std.proofs.lemmas.Nat.{mul-le}
 use Rattle.node_words.specs.Plans.{Layout}
-use Rattle.core_laws.specs.places.Spots.{whole_lines, key_words, bucket_words}
+use Rattle.core_laws.specs.places.WordIds.{whole_lines, key_words, bucket_words}
 
 -- they have room for the words, and for seven more at most
 pub lines_low : (n : ℕ) → n ≤ whole_lines n

@@ -2,7 +2,7 @@
 use Rattle.std.proofs.Common.{ℕ, ◌<◌, arith, inl, inr}
 use Rattle.std.proofs.lemmas.Bool.{cases_lt}
 use Rattle.node_words.specs.Plans.{Layout, buckets_at}
-use Rattle.core_laws.specs.places.Spots.{Spot, Sessions, LogTurn, LogLength, Version, Turn, Used, Key, Book, IsSpot, IsSlot, levels, key_words, versions, version_words}
+use Rattle.core_laws.specs.places.WordIds.{WordId, Sessions, LogTurn, LogLength, Version, Turn, Used, Key, Book, IsWordId, IsSlot, levels, key_words, versions, version_words}
 
 lt_dec : (a b : ℕ) → Dec (a < b)
 lt_dec a b = elim (cases_lt a b) [ inl h ↦ yes h | inr h ↦ no (λ e. omega arith) ]
@@ -22,15 +22,15 @@ slot_of (no x) _ _ = no (λ t. x t.level_in)
 slot_dec : (p : Layout) (l b s : ℕ) → Dec (IsSlot p l b s)
 slot_dec p l b s = slot_of (lt_dec l (levels p)) (lt_dec b (buckets_at p l)) (lt_dec s p.cap)
 
-pub spot_dec : (p : Layout) (x : Spot) → Dec (IsSpot p x)
-spot_dec p Sessions = yes tt
-spot_dec p LogTurn = yes tt
-spot_dec p LogLength = yes tt
-spot_dec p (Version version word) = both_dec (lt_dec version versions) (lt_dec word version_words)
-spot_dec p (Turn level bucket) =
+pub word_id_dec : (p : Layout) (x : WordId) → Dec (IsWordId p x)
+word_id_dec p Sessions = yes tt
+word_id_dec p LogTurn = yes tt
+word_id_dec p LogLength = yes tt
+word_id_dec p (Version version word) = both_dec (lt_dec version versions) (lt_dec word version_words)
+word_id_dec p (Turn level bucket) =
     both_dec (lt_dec level (levels p)) (lt_dec bucket (buckets_at p level))
-spot_dec p (Used level bucket) =
+word_id_dec p (Used level bucket) =
     both_dec (lt_dec level (levels p)) (lt_dec bucket (buckets_at p level))
-spot_dec p (Key level bucket slot word) =
+word_id_dec p (Key level bucket slot word) =
     both_dec (slot_dec p level bucket slot) (lt_dec word (key_words level))
-spot_dec p (Book level bucket slot) = slot_dec p level bucket slot
+word_id_dec p (Book level bucket slot) = slot_dec p level bucket slot

@@ -4,7 +4,7 @@ use Rattle.vw_cell.specs.declared.cells.Cell.{Cell}
 use Rattle.vw_cell.specs.Places.{IsInWorld}
 use Rattle.vw_cell.specs.Sums.{one_if}
 use Rattle.vox_read.specs.Contents.{Content}
-use Rattle.history_model.specs.Logs.{Log, FitsWorld, IsPlain, SuitsTints, kept_side, suits_tints}
+use Rattle.history_model.specs.Logs.{Log, FitsWorld, IsPlain, SuitsTints, side_of_world, suits_tints}
 use Rattle.history_model.specs.Moments.{world_has, world_tint}
 use Rattle.history_model.specs.Stores.{store_has}
 use Rattle.history_model.specs.Worlds.{World}
@@ -55,7 +55,7 @@ module _ (models : List Content) (log : Log) (suits : SuitsTints log)
 
   tints_of : (c : Bool) → log.coloured ≡ c
       → ((q : Cell) → IsInWorld (2 ^ log.side) q → a q ≡ b q)
-      → (p : Cell) → IsInWorld (kept_side c (2 ^ log.side)) p → t p ≡ u p
+      → (p : Cell) → IsInWorld (side_of_world c (2 ^ log.side)) p → t p ≡ u p
   tints_of true e same p i =
       tints_same quarter t u a b (versions_stored models log e suits fit v)
       (versions_stored models log e suits fit w) (λ q j. same q (in_quarters e q j)) p i
@@ -68,7 +68,7 @@ module _ (models : List Content) (log : Log) (suits : SuitsTints log)
       ∙ sym (versions_plainly_tinted models log (plain e) w p)
 
   cells_of : (c : Bool) → log.coloured ≡ c
-      → ((p : Cell) → IsInWorld (kept_side c (2 ^ log.side)) p → t p ≡ u p)
+      → ((p : Cell) → IsInWorld (side_of_world c (2 ^ log.side)) p → t p ≡ u p)
       → (q : Cell) → IsInWorld (2 ^ log.side) q → a q ≡ b q
   cells_of true e same q i =
       stored_same quarter t u a b (versions_stored models log e suits fit v)
@@ -81,10 +81,10 @@ module _ (models : List Content) (log : Log) (suits : SuitsTints log)
       ∙ sym (versions_plain models log (plain e) w q)
 
   pub versions_tints_same : ((q : Cell) → IsInWorld (2 ^ log.side) q → a q ≡ b q)
-      → (p : Cell) → IsInWorld (kept_side log.coloured (2 ^ log.side)) p → t p ≡ u p
+      → (p : Cell) → IsInWorld (side_of_world log.coloured (2 ^ log.side)) p → t p ≡ u p
   versions_tints_same same p i = tints_of log.coloured refl same p i
 
   pub versions_stored_same :
-      ((p : Cell) → IsInWorld (kept_side log.coloured (2 ^ log.side)) p → t p ≡ u p)
+      ((p : Cell) → IsInWorld (side_of_world log.coloured (2 ^ log.side)) p → t p ≡ u p)
       → (q : Cell) → IsInWorld (2 ^ log.side) q → a q ≡ b q
   versions_stored_same same q i = cells_of log.coloured refl same q i

@@ -12,7 +12,7 @@ use Rattle.history_model.specs.Worlds.{World, nothing, edited}
 use Rattle.history_model.specs.Tints.{Tints, untinted, tints_by}
 use Rattle.history_model.specs.Planes.{StoresTints, tells}
 use Rattle.history_model.specs.Logs.{Log, FitsWorld, IsPlain, SuitsTints, suits_tints}
-use Rattle.history_model.specs.Entries.{IsRecord, IsTold}
+use Rattle.history_model.specs.Entries.{IsRecord, HasJournal}
 use Rattle.history_model.specs.Stores.{edited_in, store_has}
 use Rattle.history_model.specs.Moments.{world_has, world_tint}
 use Rattle.history_model.proofs.Relating.{related}
@@ -113,7 +113,7 @@ suit_plainly coloured side (r ∷ more) none all = (
   suit_plainly coloured side more none all.1,
 )
 
-pub told_plain : (log : Log) → IsTold log → log.coloured ≡ false → IsPlain log
+pub told_plain : (log : Log) → HasJournal log → log.coloured ≡ false → IsPlain log
 told_plain log told none =
     record {
       coloured = none;

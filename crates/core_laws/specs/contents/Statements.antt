@@ -10,7 +10,7 @@ use Rattle.history_model.specs.Logs.{MayFollowFrom}
 use Rattle.history_model.specs.Positions.{Position}
 use Rattle.core_laws.specs.contents.Aligned.{top, world_block, IsAligned, block_at, HasPlace}
 use Rattle.core_laws.specs.contents.MarkLists.{marks_below, AreOfVersions, GetsMark}
-use Rattle.core_laws.specs.contents.Versions.{MarkComes, IsUnmarked}
+use Rattle.core_laws.specs.contents.Versions.{InsertsMark, IsUnmarked}
 
 -- a block at multiples of its side is aligned, where it lies in the world
 abbrev pub AlignedByMultiples : Type 0
@@ -30,19 +30,19 @@ AlignedLieInWorld = (side : ℕ) (b : Block) (q : Cell) → 2 ≤ side → IsAli
 
 -- marks by rising version rise still when one comes
 abbrev pub MarksAreInOrder : Type 0
-MarksAreInOrder = (old new : List Mark) (mark : Mark) → MarkComes old mark new
+MarksAreInOrder = (old new : List Mark) (mark : Mark) → InsertsMark old mark new
     → AllPairs (λ a b. a.version < b.version) old → AllPairs (λ a b. a.version < b.version) new
 
 -- a mark that is dated at the last record or later forgets no version that a record went back to
 abbrev pub MarksDateTheNewest : Type 0
 MarksDateTheNewest =
     (old new : List Mark) (mark : Mark) (n : ℕ) (at : Position) (records : List Record)
-    → MarkComes old mark new → n + length records ≤ mark.at + 1 → MayFollowFrom old n at records
+    → InsertsMark old mark new → n + length records ≤ mark.at + 1 → MayFollowFrom old n at records
     → MayFollowFrom new n at records
 
 -- a version other than the mark's has no mark afterwards just where it had none
 abbrev pub MarksAddOne : Type 0
-MarksAddOne = (old new : List Mark) (mark : Mark) (v : ℕ) → MarkComes old mark new
+MarksAddOne = (old new : List Mark) (mark : Mark) (v : ℕ) → InsertsMark old mark new
     → v ≢ mark.version
     → (IsUnmarked old v → IsUnmarked new v) × (IsUnmarked new v → IsUnmarked old v)
 
@@ -50,4 +50,4 @@ MarksAddOne = (old new : List Mark) (mark : Mark) (v : ℕ) → MarkComes old ma
 abbrev pub MarksComeByVersion : Type 0
 MarksComeByVersion = (old new : ℕ → Option Mark) (mark : Mark) (n : ℕ) → mark.version < n
     → GetsMark old mark new
-    → AreOfVersions old → MarkComes (marks_below old n) mark (marks_below new n)
+    → AreOfVersions old → InsertsMark (marks_below old n) mark (marks_below new n)

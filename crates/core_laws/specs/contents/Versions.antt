@@ -15,12 +15,12 @@ abbrev pub IsUnmarked : List Mark → ℕ → Type 0
 IsUnmarked marks v = All (λ mark. mark.version ≢ v) marks
 
 -- the version is there, and isn't forgotten
-pub record IsKept (log : Log) (v : ℕ) : Type 0 where
+pub record HoldsVersion (log : Log) (v : ℕ) : Type 0 where
   pub there : v ≤ length log.records
   pub unmarked : IsUnmarked log.marks v
 
 -- the mark comes to its place among marks by rising version
-pub record MarkComes (old : List Mark) (mark : Mark) (new : List Mark) : Type 0 where
+pub record InsertsMark (old : List Mark) (mark : Mark) (new : List Mark) : Type 0 where
   pub before : List Mark
   pub after : List Mark
   pub was : old ≡ before ++ after

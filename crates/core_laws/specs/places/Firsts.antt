@@ -2,7 +2,7 @@
 use Rattle.std.specs.Prelude.{◌≡◌, ◌≢◌, ℕ, ◌+◌, ◌^◌, ◌<◌, ◌≤◌, List, slice_index}
 use Rattle.node_words.specs.Sums.{sum_below}
 use Rattle.node_words.specs.Plans.{Layout, IsPlan}
-use Rattle.core_laws.specs.places.Spots.{head_words, bucket_words, level_words, first_bucket}
+use Rattle.core_laws.specs.places.WordIds.{head_words, bucket_words, level_words, first_bucket}
 
 -- how many words the head of a bucket has, a bucket of leaves and one of nodes; and for each number
 -- of levels, where the buckets of so many levels end

@@ -5,7 +5,7 @@ use Rattle.node_words.specs.declared.keys.Key.{Key}
 use Rattle.node_words.specs.declared.keys.Key.TheVariants.{Leaf, Node}
 use Rattle.node_words.specs.Held.{name_in}
 use Rattle.node_words.specs.Plans.{Layout}
-use Rattle.core_laws.specs.places.Spots.{IsSlot}
+use Rattle.core_laws.specs.places.WordIds.{IsSlot}
 
 abbrev pub named : ℕ → ℕ → ℕ → Name
 named level bucket slot = record { level = level; bucket = bucket; slot = slot }

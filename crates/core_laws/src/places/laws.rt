@@ -1,20 +1,21 @@
 ghost use Rattle.std.specs.Prelude.{◌≡◌, ◌<◌, ℕ, Option};
 ghost use Rattle.node_words.specs.Plans.{Layout};
-ghost use Rattle.core_laws.specs.places.Spots.{Spot, place, width, IsSpot, key_words};
+ghost use Rattle.core_laws.specs.places.WordIds.{WordId, place, width, IsWordId, key_words};
 
 /// Two words stand at two places.
 pub fn places_are_apart()
-    ensures { (p : Layout) (s t : Spot) → IsSpot p s → IsSpot p t → place p s ≡ place p t → s ≡ t }
+    ensures { (p : Layout) (s t : WordId) → IsWordId p s → IsWordId p t → place p s ≡ place p t
+        → s ≡ t }
 {}
 
 /// Whether the table has a word can be decided.
 pub fn words_can_be_told()
-    ensures { (p : Layout) (s : Spot) → Dec (IsSpot p s) }
+    ensures { (p : Layout) (s : WordId) → Dec (IsWordId p s) }
 {}
 
 /// Each word stands in the table.
 pub fn places_are_in_the_table()
-    ensures { (p : Layout) (s : Spot) → IsSpot p s → place p s < width p }
+    ensures { (p : Layout) (s : WordId) → IsWordId p s → place p s < width p }
 {}
 
 ghost use Rattle.node_words.specs.declared.keys.Key.{Key};

@@ -1,7 +1,7 @@
 ghost use Rattle.std.specs.Prelude.{◌≡◌, ℕ, ◌+◌, ◌-◌, ◌*◌, ◌^◌, ◌<◌, ◌≤◌, slice_index};
 ghost use Rattle.node_words.specs.Sums.{sum_below};
-ghost use Rattle.core_laws.specs.places.Spots.{place, width, key_words, head_words, word_place, Sessions, LogTurn, LogLength, Version, Turn, Used, Key, Book, IsSpot};
-ghost use Rattle.core_laws.specs.places.Spots.{bucket_words, first_bucket, whole_lines};
+ghost use Rattle.core_laws.specs.places.WordIds.{place, width, key_words, head_words, word_place, Sessions, LogTurn, LogLength, Version, Turn, Used, Key, Book, IsWordId};
+ghost use Rattle.core_laws.specs.places.WordIds.{bucket_words, first_bucket, whole_lines};
 
 use node_words::Plan;
 use std::marker::Model;
@@ -82,7 +82,7 @@ impl Places {
 
     /// The place of a version's word; a version has eight.
     pub fn version(&self, version: u32, word: u8) -> usize
-        requires { IsSpot self.now (Version version word) }
+        requires { IsWordId self.now (Version version word) }
         ensures { result ≡ place self.now (Version version word) }
     {
         FIRST_VERSION + (version as usize * 8 + usize::from(word))
@@ -91,7 +91,7 @@ impl Places {
     /// The place of a bucket's turn.
     #[inline(always)]
     pub fn turn(&self, level: u8, bucket: u16) -> usize
-        requires { IsSpot self.now (Turn level bucket) }
+        requires { IsWordId self.now (Turn level bucket) }
         ensures { result ≡ place self.now (Turn level bucket) }
     {
         self.bucket(level, bucket)
@@ -101,7 +101,7 @@ impl Places {
     /// the bucket's turn.
     #[inline(always)]
     pub fn used(&self, level: u8, bucket: u16) -> usize
-        requires { IsSpot self.now (Used level bucket) }
+        requires { IsWordId self.now (Used level bucket) }
         ensures { result ≡ place self.now (Used level bucket) }
     {
         self.bucket(level, bucket) + 1
@@ -110,7 +110,7 @@ impl Places {
     /// The place of the book in this slot.
     #[inline(always)]
     pub fn book(&self, level: u8, bucket: u16, slot: u8) -> usize
-        requires { IsSpot self.now (Book level bucket slot) }
+        requires { IsWordId self.now (Book level bucket slot) }
         ensures { result ≡ place self.now (Book level bucket slot) }
     {
         self.bucket(level, bucket) + (2 + usize::from(slot))
@@ -119,19 +119,20 @@ impl Places {
     /// The place of a word of the key in this slot; a leaf's key has one, a node's four.
     #[inline(always)]
     pub fn key(&self, level: u8, bucket: u16, slot: u8, word: u8) -> usize
-        requires { IsSpot self.now (Key level bucket slot word) }
+        requires { IsWordId self.now (Key level bucket slot word) }
         ensures { result ≡ place self.now (Key level bucket slot word) }
     {
         let number = usize::from(slot) * key_words(level) + usize::from(word);
         self.bucket(level, bucket) + (self.head + number)
     }
 
-    /// The place of a bucket's first word, at which a line of memory begins. A bucket's head is its
-    /// turn, how many of its slots were ever used, and the books of all slots; the keys stand
+    /// The place of a bucket's first word. A line of memory begins there where the table's block of
+    /// memory begins two words behind a line, as a large one of the C library does. A bucket's head
+    /// is its turn, how many of its slots were ever used, and the books of all slots; the keys stand
     /// behind the head, the words of each side by side.
     #[inline(always)]
     pub fn bucket(&self, level: u8, bucket: u16) -> usize
-        requires { IsSpot self.now (Turn level bucket) }
+        requires { IsWordId self.now (Turn level bucket) }
         ensures value { result ≡ word_place self.now level bucket 0 }
         ensures bound { result < 2 ^ 41 }
     {
@@ -174,7 +175,7 @@ fn key_words(level: u8) -> usize
 }
 
 // So many words, up to a whole line of memory, which has eight.
-#[tactic(auto, unfolding(crate::specs::places::Spots::whole_lines))]
+#[tactic(auto, unfolding(crate::specs::places::WordIds::whole_lines))]
 fn whole_lines(words: usize) -> usize
     requires { words < 2 ^ 19 }
     ensures value { result ≡ whole_lines words }

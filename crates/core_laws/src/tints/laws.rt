@@ -4,10 +4,10 @@ ghost use Rattle.vw_cell.specs.Places.{IsInWorld};
 ghost use Rattle.vw_cell.specs.Sums.{one_if};
 ghost use Rattle.vox_read.specs.Contents.{Content};
 ghost use Rattle.history_model.specs.Worlds.{World, edited};
-ghost use Rattle.history_model.specs.Logs.{Log, FitsWorld, IsPlain, SuitsTints, TintFits, kept_side};
+ghost use Rattle.history_model.specs.Logs.{Log, FitsWorld, IsPlain, SuitsTints, TintFits, side_of_world};
 ghost use Rattle.history_model.specs.Moments.{world_has, world_tint};
 ghost use Rattle.history_model.specs.Stores.{store_has};
-ghost use Rattle.history_model.specs.Entries.{IsTold};
+ghost use Rattle.history_model.specs.Entries.{HasJournal};
 ghost use Rattle.history_model.specs.declared.histories.Record.{Record};
 ghost use Rattle.history_model.specs.declared.acts.TintAct.{TintAct};
 ghost use Rattle.history_model.specs.Tints.{Tints, tinted, ink_of, plain_of};
@@ -72,7 +72,7 @@ pub fn plain_versions_have_tint_1()
 
 /// A journal of version 1 tells a plain history.
 pub fn journals_of_version_1_are_plain()
-    ensures { (log : Log) → IsTold log → log.coloured ≡ false → IsPlain log }
+    ensures { (log : Log) → HasJournal log → log.coloured ≡ false → IsPlain log }
 {}
 
 /// The cells of a version are those whose tint isn't 0.
@@ -89,12 +89,12 @@ pub fn versions_agree_where_their_tints_do()
         → (log.coloured ≡ true → 4 ≤ log.side) → (v w : ℕ)
         → ((q : Cell) → IsInWorld (2 ^ log.side) q
         → store_has models log v q ≡ store_has models log w q)
-        → (p : Cell) → IsInWorld (kept_side log.coloured (2 ^ log.side)) p
+        → (p : Cell) → IsInWorld (side_of_world log.coloured (2 ^ log.side)) p
         → world_tint models log.records v p ≡ world_tint models log.records w p }
     ensures same_cells { (models : List Content) (log : Log) → SuitsTints log
         → All (λ r. FitsWorld (2 ^ log.side) models r.act) log.records → All TintsPlaces models
         → (log.coloured ≡ true → 4 ≤ log.side) → (v w : ℕ)
-        → ((p : Cell) → IsInWorld (kept_side log.coloured (2 ^ log.side)) p
+        → ((p : Cell) → IsInWorld (side_of_world log.coloured (2 ^ log.side)) p
         → world_tint models log.records v p ≡ world_tint models log.records w p)
         → (q : Cell) → IsInWorld (2 ^ log.side) q
         → store_has models log v q ≡ store_has models log w q }

@@ -6,12 +6,12 @@ use Rattle.node_words.specs.shapes.Tree.{Tree, Gone, LeafAt, root_of, child_of, 
 use Rattle.node_words.specs.shapes.Weights.{weight_of, number_of_trees}
 use Rattle.node_words.proofs.OfShapes.TreeLaws.{gone_at, leaf_at, shape_of-leaf, shape_of-gone, shape_of-child, gone_from_root, level_of, IsTreeAt-below}
 use Rattle.node_words.proofs.OfShapes.WeightLaws.{weigh-cons, weight_of-there, weight_of-gone, weight_below-one}
-use Rattle.node_words.specs.Held.{Seen, IsHeld, HoldsName, ReachesName, Gains, Grants, OnlyMeets}
+use Rattle.node_words.specs.Held.{StoreState, IsHeld, HoldsName, ReachesName, Gains, Grants, OnlyMeets}
 use Rattle.node_words.specs.Gathering.{IsTreeOf, Grew, unchanged, Grows}
 use Rattle.node_words.proofs.HeldLaws.{Keeps, held_reached, reached_child}
 use Rattle.node_words.proofs.GatherLaws.{grows_none, grows_granted}
 use Rattle.node_words.specs.contents.CellShapes.{leaf_shape, full_shape}
-use Rattle.edit_walk.specs.blocks.Blocks.{IsFullBlock, Aside, Came, RefusesBlock}
+use Rattle.edit_walk.specs.blocks.Blocks.{IsFullBlock, Aside, GainedShare, RefusesBlock}
 use Rattle.node_words.proofs.OfContents.LeafBits.{leaf_shape-some}
 use Rattle.node_words.proofs.OfContents.FullShapes.{full_octant, full_leaf}
 
@@ -62,7 +62,7 @@ aside_gains held new rest full t a g =
 
 pub came_gains : (held new rest : List Tree) (full : Option Name) (level : ℕ) (target : Shape)
     (t : Tree) (n : Name) → Aside held full rest → Gains held t new → root_of t ≡ Some n
-    → IsTreeAt level t → shape_of t ≡ target → Came rest level target (Some n) new full
+    → IsTreeAt level t → shape_of t ≡ target → GainedShare rest level target (Some n) new full
 came_gains held new rest full level target t n a g r l s = record {
   now = t ∷ rest;
   comes = record {
@@ -77,7 +77,7 @@ came_gains held new rest full level target t n a g r l s = record {
 }
 
 pub came_none : (held rest : List Tree) (full : Option Name) (level : ℕ) (target : Shape)
-    → Aside held full rest → target ≡ Clear → Came rest level target None held full
+    → Aside held full rest → target ≡ Clear → GainedShare rest level target None held full
 came_none held rest full level target a e = record {
   now = rest;
   comes = record {
@@ -93,12 +93,12 @@ came_none held rest full level target a e = record {
 
 pub leaf_came : (held new rest : List Tree) (full : Option Name) (bits : ℕ) (n : Name) → bits ≢ 0
     → n.level ≡ 0 → Gains held (LeafAt n bits) new → Aside held full rest
-    → Came rest 0 (leaf_shape bits) (Some n) new full
+    → GainedShare rest 0 (leaf_shape bits) (Some n) new full
 leaf_came held new rest full bits n ne e g a =
     came_gains held new rest full 0 (leaf_shape bits) (LeafAt n bits) n a g refl (leaf_at n bits e)
     (shape_of-leaf n bits ∙ sym (leaf_shape-some bits ne))
 
-pub leaf_grows : (bits : ℕ) (old new : Seen) → bits ≢ 0 → Grants old (Leaf bits) new
+pub leaf_grows : (bits : ℕ) (old new : StoreState) → bits ≢ 0 → Grants old (Leaf bits) new
     → Grows (leaf_shape bits) old new
 leaf_grows bits old new ne g =
     grows_granted (leaf_shape bits) (Leaf bits) old old new (λ e. cc)
@@ -148,10 +148,10 @@ full_below held t n m f h e =
       },
     )
 
-pub full_next : (a b : Seen) (t : Tree) (n m : Name) → b ≡ a → IsFullBlock a.held t n → 1 ≤ n.level
+pub full_next : (a b : StoreState) (t : Tree) (n m : Name) → b ≡ a → IsFullBlock a.held t n → 1 ≤ n.level
     → root_of (child_of t 0) ≡ Some m → IsFullBlock b.held (child_of t 0) m
 full_next a b t n m q f h e =
-    subst (λ (s : Seen). IsFullBlock s.held (child_of t 0) m) (sym q)
+    subst (λ (s : StoreState). IsFullBlock s.held (child_of t 0) m) (sym q)
     (full_below a.held t n m f h e).1
 
 full_not_clear : (level : ℕ) → full_shape level ≢ Clear
@@ -169,11 +169,11 @@ full_child_there held t n f h e =
     ∙ sym (shape_of-child t 0) ∙ ap shape_of (gone_from_root (child_of t 0) e)
     ∙ shape_of-gone)
 
-pub keep_came : (a b new : Seen) (rest : List Tree) (full : Option Name) (level : ℕ) (u : Tree)
+pub keep_came : (a b new : StoreState) (rest : List Tree) (full : Option Name) (level : ℕ) (u : Tree)
     (m k : Name) → b ≡ a → Aside a.held full rest → IsFullBlock b.held u m → m.level ≡ level → k ≡ m
-    → Gains b.held u new.held → Came rest level (full_shape level) (Some k) new.held full
+    → Gains b.held u new.held → GainedShare rest level (full_shape level) (Some k) new.held full
 keep_came a b new rest full level u m k q x f e r g =
-    let y = subst (λ (s : Seen). Aside s.held full rest) (sym q) x in
+    let y = subst (λ (s : StoreState). Aside s.held full rest) (sym q) x in
     came_gains b.held new.held rest full level (full_shape level) u k y g
     (f.root ∙ ap Some (sym r)) (subst (λ (l : ℕ). IsTreeAt l u) e f.levels)
     (f.shape ∙ ap full_shape e)
@@ -200,13 +200,13 @@ first_aside old new rest full n bits e none l g a = record {
   );
 }
 
-pub first_grows : (old new : Seen) (bits : ℕ) → bits ≡ 2 ^ 64 - 1 → Grants old (Leaf bits) new
+pub first_grows : (old new : StoreState) (bits : ℕ) → bits ≡ 2 ^ 64 - 1 → Grants old (Leaf bits) new
     → Grows (full_shape 0) old new
 first_grows old new bits e g =
     grows_granted (full_shape 0) (Leaf bits) old old new (λ q. cc) (ap Leaf e ∙ sym full_leaf)
     (grows_none _ old) g
 
-pub meets_refuses : (target wanted : Shape) (level bucket : ℕ) (old new : Seen) → wanted ≡ target
+pub meets_refuses : (target wanted : Shape) (level bucket : ℕ) (old new : StoreState) → wanted ≡ target
     → OnlyMeets old level bucket wanted new → RefusesBlock target level bucket old new
 meets_refuses target wanted level bucket old new e m = record {
   plan = m.plan;
@@ -223,7 +223,7 @@ aside_same old new full rest e a = subst (λ (h : List Tree). Aside h full rest)
 
 pub more_came : (held new rest : List Tree) (full : Option Name) (n m k : Name) → full ≡ Some n
     → full ≡ Some m → k ≡ m → (a : Aside held full rest) → Gains held a.tree new
-    → Came rest n.level (full_shape n.level) (Some k) new full
+    → GainedShare rest n.level (full_shape n.level) (Some k) new full
 more_came held new rest full n m k e q r a g =
     let w : m ≡ n = let s : Some m ≡ Some n = sym q ∙ e in cc in
     came_gains held new rest full n.level (full_shape n.level) a.tree k a g
@@ -232,14 +232,14 @@ more_came held new rest full n m k e q r a g =
 -- one more share of a block that the rest reaches
 pub again_came : (held new rest : List Tree) (full : Option Name) (level : ℕ) (t : Tree)
     (n m : Name) → m ≡ n → Aside held full rest → IsTreeOf rest level t (Some n) → Gains held t new
-    → Came rest level (shape_of t) (Some m) new full
+    → GainedShare rest level (shape_of t) (Some m) new full
 again_came held new rest full level t n m e a o g =
     came_gains held new rest full level (shape_of t) t m a g
     (o.root ∙ ap Some (sym e)) o.levels refl
 
 pub again_none : (held rest : List Tree) (full : Option Name) (level : ℕ) (t : Tree)
     → Aside held full rest → IsTreeOf rest level t None
-    → Came rest level (shape_of t) None held full
+    → GainedShare rest level (shape_of t) None held full
 again_none held rest full level t a o =
     came_none held rest full level (shape_of t) a
     (ap shape_of (gone_from_root t o.root) ∙ shape_of-gone)

@@ -6,13 +6,13 @@ use Rattle.node_words.specs.shapes.Tree.{Tree, Gone, LeafAt, NodeAt, node_at, ro
 use Rattle.node_words.specs.shapes.Weights.{weigh, weight_below, number_of_trees}
 use Rattle.node_words.proofs.OfShapes.TreeLaws.{gone_at, node_levels, shape_of-gone, shape_of-node, gone_from_root, level_of}
 use Rattle.node_words.proofs.OfShapes.WeightLaws.{weigh-cons, weight_of-there, weight_of-gone}
-use Rattle.node_words.specs.Held.{Seen, IsSought, Joins, Grants, OnlyHeldChanges, OnlyMeets, AreHeld, AreBelow, HasChild, name_in}
+use Rattle.node_words.specs.Held.{StoreState, IsSought, Joins, Grants, OnlyHeldChanges, OnlyMeets, AreHeld, AreBelow, HasChild, name_in}
 use Rattle.node_words.specs.Plans.{Layout}
 use Rattle.node_words.specs.Gathering.{LosesAll, Grew, Grows}
 use Rattle.node_words.proofs.HeldLaws.{Keeps, keeps_on}
 use Rattle.node_words.proofs.GatherLaws.{grows_none, grows_granted, grew_more, grew_into, none_gathered, one_gathered, gathered_held, gathered_number, gathered_below, gathered_shape}
 use Rattle.node_words.specs.contents.CellShapes.{full_shape}
-use Rattle.edit_walk.specs.blocks.Blocks.{Aside, Came, Gathers, RefusesBlock}
+use Rattle.edit_walk.specs.blocks.Blocks.{Aside, GainedShare, Gathers, RefusesBlock}
 use Rattle.node_words.proofs.OfContents.FullShapes.{full_octant}
 use Rattle.node_words.proofs.OfContents.OctantShapes.{octants_join, octants_clear}
 use Rattle.edit_walk.proofs.OfBlocks.AsideLaws.{aside_numbers, aside_keeps, none_aside, meets_refuses}
@@ -38,7 +38,7 @@ gathers_none held rest full level target a =
 abbrev pub gathers_one : (rest held new : List Tree) (full other : Option Name) (level : ℕ)
     (target : Shape) (cs ds : List (Option Name)) (k : ℕ) (name : Option Name) → k < 8
     → length cs ≡ 8 → (a : Gathers rest level target cs k held full)
-    → Came a.now level (octant_shape target k) name new other → ds ≡ set cs k name
+    → GainedShare a.now level (octant_shape target k) name new other → ds ≡ set cs k name
     → Gathers rest level target ds (k + 1) new other
 gathers_one rest held new full other level target cs ds k name lt e a c d =
     record { now = c.now; gathered = one_gathered rest a.now c.now level target cs ds k name lt e a.gathered c.comes d; aside = c.aside }
@@ -73,15 +73,15 @@ full_octant_up level k h = rw add-one (full_octant level k h)
 pub full_gathers : (rest held new : List Tree) (full other : Option Name) (level : ℕ)
     (cs ds : List (Option Name)) (k : ℕ) (name : Option Name) → k < 8 → length cs ≡ 8
     → (a : Gathers rest level (full_shape (level + 1)) cs k held full)
-    → Came a.now level (full_shape level) name new other → ds ≡ set cs k name
+    → GainedShare a.now level (full_shape level) name new other → ds ≡ set cs k name
     → Gathers rest level (full_shape (level + 1)) ds (k + 1) new other
 full_gathers rest held new full other level cs ds k name lt e a c d =
     gathers_one rest held new full other level (full_shape (level + 1)) cs ds k name lt e a
-    (subst (λ s. Came a.now level s name new other) (sym (full_octant_up level k lt)) c) d
+    (subst (λ s. GainedShare a.now level s name new other) (sym (full_octant_up level k lt)) c) d
 
 -- the full block that was aside, as a share that came
 pub aside_came : (held rest : List Tree) (full : Option Name) (n : Name) → full ≡ Some n
-    → Aside held full rest → Came rest n.level (full_shape n.level) full held None
+    → Aside held full rest → GainedShare rest n.level (full_shape n.level) full held None
 aside_came held rest full n e a = record {
   now = held;
   comes = record { tree = a.tree; root = a.root; levels = a.levels n e; shape = a.shape n e; weighs = a.weighs };
@@ -108,7 +108,7 @@ gone_weigh f row (suc n) h =
 abbrev pub join_none : (rest held : List Tree) (full : Option Name) (level : ℕ) (target : Shape)
     (cs : List (Option Name)) → 1 ≤ level → IsCanonical level target
     → Gathers rest (level - 1) target cs 8 held full → ((k : ℕ) → k < 8 → name_in cs k ≡ None)
-    → Came rest level target None held full
+    → GainedShare rest level target None held full
 join_none rest held full level target cs h c a none =
     let gone : (k : ℕ) → k < 8 → a.gathered.row k ≡ Gone =
     λ k lt. gone_from_root (a.gathered.row k) (a.gathered.names k ∙ none k lt) in
@@ -152,7 +152,7 @@ join_branch rest held full level target cs h c some a =
 abbrev pub join_some : (rest held new : List Tree) (full : Option Name) (level : ℕ) (target : Shape)
     (cs : List (Option Name)) (n : Name) → 1 ≤ level → IsCanonical level target → HasChild cs
     → n.level ≡ level → (a : Gathers rest (level - 1) target cs 8 held full)
-    → Joins held a.gathered.row n new → Came rest level target (Some n) new full
+    → Joins held a.gathered.row n new → GainedShare rest level target (Some n) new full
 join_some rest held new full level target cs n h c some l a j =
     let e : suc (level - 1) ≡ level = omega arith in
     let row : ℕ → Tree = a.gathered.row in
@@ -178,14 +178,14 @@ join_some rest held new full level target cs n h c some l a j =
     }
 
 pub join_grows : (rest held : List Tree) (full : Option Name) (level : ℕ) (target : Shape)
-    (cs : List (Option Name)) (old new : Seen) → 1 ≤ level → IsCanonical level target → HasChild cs
+    (cs : List (Option Name)) (old new : StoreState) → 1 ≤ level → IsCanonical level target → HasChild cs
     → (a : Gathers rest (level - 1) target cs 8 held full)
     → Grants old (branch_of (λ k. shape_of (a.gathered.row k))) new → Grows target old new
 join_grows rest held full level target cs old new h c some a g =
     grows_granted target _ old old new (λ e. cc)
     (join_branch rest held full level target cs h c some a) (grows_none target old) g
 
-pub refuses_held : (target : Shape) (level bucket : ℕ) (a b c : Seen)
+pub refuses_held : (target : Shape) (level bucket : ℕ) (a b c : StoreState)
     → RefusesBlock target level bucket a b → OnlyHeldChanges b c
     → RefusesBlock target level bucket a c
 refuses_held target level bucket a b c r o = record {
@@ -197,7 +197,7 @@ refuses_held target level bucket a b c r o = record {
   met = o.met ∙ r.met;
 }
 
-pub refuses_after : (target : Shape) (level bucket : ℕ) (a b c : Seen) → Grows target a b
+pub refuses_after : (target : Shape) (level bucket : ℕ) (a b c : StoreState) → Grows target a b
     → RefusesBlock target level bucket b c → RefusesBlock target level bucket a c
 refuses_after target level bucket a b c g r = record {
   plan = r.plan ∙ g.plan;
@@ -210,7 +210,7 @@ refuses_after target level bucket a b c g r = record {
   met = r.met ∙ ap (λ m. record { level = level; bucket = bucket; shape = r.wanted } ∷ m) g.met;
 }
 
-pub refuses_octant : (target : Shape) (k level bucket : ℕ) (a b : Seen)
+pub refuses_octant : (target : Shape) (k level bucket : ℕ) (a b : StoreState)
     → RefusesBlock (octant_shape target k) level bucket a b → RefusesBlock target level bucket a b
 refuses_octant target k level bucket a b r = record {
   plan = r.plan;
@@ -221,12 +221,12 @@ refuses_octant target k level bucket a b r = record {
   met = r.met;
 }
 
-pub grows_on : (target : Shape) (a b c : Seen) → Grows target a b → Grows target b c
+pub grows_on : (target : Shape) (a b c : StoreState) → Grows target a b → Grows target b c
     → Grows target a c
 grows_on target a b c p q =
     record { plan = q.plan ∙ p.plan; made = grew_more p.made q.made; met = q.met ∙ p.met }
 
-pub grows_in : (target : Shape) (k : ℕ) (a b : Seen) → Grows (octant_shape target k) a b
+pub grows_in : (target : Shape) (k : ℕ) (a b : StoreState) → Grows (octant_shape target k) a b
     → Grows target a b
 grows_in target k a b p =
     record { plan = p.plan; made = grew_into (λ x h. within k h) p.made; met = p.met }
@@ -245,7 +245,7 @@ back_aside rest held met new full level target cs n a e l = record {
 }
 
 pub join_refuses : (rest held : List Tree) (full : Option Name) (level at bucket : ℕ)
-    (target : Shape) (cs : List (Option Name)) (old mid new : Seen) → 1 ≤ level
+    (target : Shape) (cs : List (Option Name)) (old mid new : StoreState) → 1 ≤ level
     → IsCanonical level target → HasChild cs → (a : Gathers rest (level - 1) target cs 8 held full)
     → OnlyMeets old at bucket (branch_of (λ k. shape_of (a.gathered.row k))) mid
     → OnlyHeldChanges mid new → RefusesBlock target at bucket old new
@@ -266,12 +266,12 @@ full_down level h =
     let e : level ≡ suc (level - 1) = omega arith in ap (λ (l : ℕ). octant_shape (full_shape l) 0) e
     ∙ full_octant (level - 1) 0 (omega arith)
 
-pub full_grows : (level : ℕ) (a b : Seen) → 1 ≤ level → Grows (full_shape (level - 1)) a b
+pub full_grows : (level : ℕ) (a b : StoreState) → 1 ≤ level → Grows (full_shape (level - 1)) a b
     → Grows (full_shape level) a b
 full_grows level a b h g =
     grows_in (full_shape level) 0 a b (subst (λ s. Grows s a b) (sym (full_down level h)) g)
 
-pub full_refuses : (level at bucket : ℕ) (a b : Seen) → 1 ≤ level
+pub full_refuses : (level at bucket : ℕ) (a b : StoreState) → 1 ≤ level
     → RefusesBlock (full_shape (level - 1)) at bucket a b
     → RefusesBlock (full_shape level) at bucket a b
 full_refuses level at bucket a b h r =
@@ -298,7 +298,7 @@ named (LeafAt n b) level o r e = (n, sym r)
 named (NodeAt n a b c d f g h i) level o r e = (n, sym r)
 
 pub next_aside : (rest held : List Tree) (level : ℕ) (full : Option Name)
-    → Came rest level (full_shape level) full held None → NextAside rest held level full
+    → GainedShare rest level (full_shape level) full held None → NextAside rest held level full
 next_aside rest held level full c =
     let t : Tree = c.comes.tree in
     let (n, e) = named t level full c.comes.root c.comes.shape in
@@ -329,7 +329,7 @@ eight_gathers rest held cs below level e a =
     let x = subst (λ (l : ℕ). Gathers rest below (full_shape l) cs 8 held None) e a in
     subst (λ (l : ℕ). Gathers rest l (full_shape level) cs 8 held None) b x
 
-pub only_grows : (target : Shape) (a b c : Seen) → OnlyHeldChanges a b → Grows target b c
+pub only_grows : (target : Shape) (a b c : StoreState) → OnlyHeldChanges a b → Grows target b c
     → Grows target a c
 only_grows target a b c o g =
     record {
@@ -340,7 +340,7 @@ only_grows target a b c o g =
       met = g.met ∙ o.met;
     }
 
-pub only_refuses : (target : Shape) (level bucket : ℕ) (a b c : Seen) → OnlyHeldChanges a b
+pub only_refuses : (target : Shape) (level bucket : ℕ) (a b c : StoreState) → OnlyHeldChanges a b
     → RefusesBlock target level bucket b c → RefusesBlock target level bucket a c
 only_refuses target level bucket a b c o r = record {
   plan = r.plan ∙ o.plan;

@@ -3,7 +3,7 @@ use Rattle.std.proofs.Common.{◌≡◌, ℕ, zero, suc, ◌+◌, ◌-◌, ◌<�
 use Rattle.std.proofs.lemmas.Bool.{cases_lt}
 use Rattle.node_words.specs.declared.shapes.names.Name.{Name}
 use Rattle.node_words.specs.shapes.Shape.{Shape, IsCanonical}
-use Rattle.node_words.specs.shapes.Tree.{Tree, Gone, LeafAt, NodeAt, node_at, StandsIn, below}
+use Rattle.node_words.specs.shapes.Tree.{Tree, Gone, LeafAt, NodeAt, node_at, IsSubtree, below}
 use Rattle.node_words.specs.shapes.Weights.{weigh, weight_of, weight_below}
 use Rattle.node_words.proofs.OfShapes.TreeLaws.{child_of-node_at}
 use Rattle.node_words.proofs.OfShapes.TreeEqual.{same_tree, same_tree-self, same_tree-some}
@@ -11,7 +11,7 @@ use Rattle.node_words.proofs.OfShapes.WeightLaws.{weigh-cons, weigh-nil}
 use Rattle.node_words.specs.Held.{IsHeld, Joins, HasChild, name_in}
 use Rattle.node_words.specs.Gathering.{IsTreeOf}
 use Rattle.node_words.proofs.HeldLaws.{Keeps, reached_more}
-use Rattle.edit_walk.specs.blocks.Blocks.{Came, Gathers, ReachesAll, Joined}
+use Rattle.edit_walk.specs.blocks.Blocks.{GainedShare, Gathers, ReachesAll, Joined}
 use Rattle.edit_walk.proofs.OfBlocks.JoinLaws.{join_none, join_some}
 
 -- what is reached stays reached
@@ -84,7 +84,7 @@ joins_reaches rest was row n w = record {
           over = node_at n row;
           is_held = record { weighs = λ f. omega (arith, weigh-cons f (node_at n row) rest) };
           stands = below i.k
-              (subst (λ (u : Tree). StandsIn t u)
+              (subst (λ (u : Tree). IsSubtree t u)
               (i.is ∙ sym (child_of-node_at n row i.k i.inside)) r.stands);
         }
   ];
@@ -111,7 +111,7 @@ join_some_joined rest held new full level target cs n h c some l a j = record {
 }
 
 pub came_keeps : (rest held : List Tree) (level : ℕ) (target : Shape) (name full : Option Name)
-    → (w : Came rest level target name held full) → Keeps rest w.now
+    → (w : GainedShare rest level target name held full) → Keeps rest w.now
 came_keeps rest held level target name full w =
     record { weighs = λ f. omega (arith, w.comes.weighs f) }
 

@@ -14,8 +14,8 @@ use Rattle.node_words.proofs.OfShapes.ShapeLaws.{has-clear, clear_canonical, blo
 use Rattle.node_words.proofs.OfShapes.TreeLaws.{gone_at, shape_of-gone, gone_from_root}
 use Rattle.node_words.specs.kernels.Leaves.{LeafShows}
 use Rattle.node_words.specs.declared.shares.Full.{Full}
-use Rattle.node_words.specs.Held.{Seen, AreTrees, AreCanonical}
-use Rattle.node_words.specs.Gathering.{Comes}
+use Rattle.node_words.specs.Held.{StoreState, AreTrees, AreCanonical}
+use Rattle.node_words.specs.Gathering.{GainsShare}
 use Rattle.node_words.proofs.HeldLaws.{held_reached, reached_levels}
 use Rattle.node_words.specs.contents.CellShapes.{Cells, SameIn, octant_cells}
 use Rattle.node_words.specs.descent.Roots.{HoldsRoot}
@@ -149,8 +149,8 @@ empty_none level t world e h =
           });
     }))
 
-pub comes_rebuilt : (old new : Seen) (level : ℕ) (world : Cell → Bool) (name : Option Name)
-    → Comes old.held level (world_shape level world) name new.held
+pub comes_rebuilt : (old new : StoreState) (level : ℕ) (world : Cell → Bool) (name : Option Name)
+    → GainsShare old.held level (world_shape level world) name new.held
     → Rebuilt level world name old new
 comes_rebuilt old new level world name c =
     let s = shape_shows level (shape_of c.tree) world c.shape in
@@ -170,7 +170,7 @@ comes_rebuilt old new level world name c =
     }
 
 -- or it met a full bucket
-pub root_made : (old new : Seen) (level : ℕ) (world : Cell → Bool)
+pub root_made : (old new : StoreState) (level : ℕ) (world : Cell → Bool)
     (result : Result (Option Name) Full) → MakesBlock level (world_shape level world) result old new
     → Rebuilds level world result old new
 root_made old new level world (Ok name) made = record {

@@ -8,7 +8,7 @@ use Rattle.node_words.specs.declared.shapes.names.Name.{Name}
 use Rattle.node_words.specs.shapes.Shape.{Shape, IsCanonical, ShowsCells}
 use Rattle.node_words.specs.shapes.Tree.{Tree, root_of, shape_of, IsTreeAt}
 use Rattle.node_words.specs.shapes.Weights.{weigh, weight_of}
-use Rattle.node_words.specs.Held.{Seen, IsHeld}
+use Rattle.node_words.specs.Held.{StoreState, IsHeld}
 use Rattle.node_words.specs.contents.CellShapes.{Cells, shape_with}
 
 -- the block of this level at the origin, which is the whole world where the level is the root's
@@ -42,7 +42,7 @@ pub record ShowsWorld (held : List Tree) (level : ℕ) (root : Option Name)
   pub shows : ShowsCells (block_at_origin level) (shape_of tree) world
 
 -- P of what an edit makes of each world that the root shows, the world's side being a power of two
-abbrev pub ForEdited : Seen → ℕ → Option Name → ((Cell → Bool) → Cell → Bool)
+abbrev pub ForEdited : StoreState → ℕ → Option Name → ((Cell → Bool) → Cell → Bool)
     → ((Cell → Bool) → Type 0) → Type 0
 ForEdited seen side root edit P =
     (before : Cell → Bool) → ShowsWorld seen.held (side - 2) root before → P (edit before)
@@ -54,7 +54,7 @@ IsEmptyWorld level world = (c : Cell) → IsInBlock (block_at_origin level) c �
 -- besides what was held there is a share of the canonical root of this world, or there is none and
 -- the world is empty
 pub record Rebuilt (level : ℕ) (world : Cell → Bool) (name : Option Name)
-    (old new : Seen) : Type 0 where
+    (old new : StoreState) : Type 0 where
   pub tree : Tree
   pub root : root_of tree ≡ name
   pub levels : IsTreeAt level tree

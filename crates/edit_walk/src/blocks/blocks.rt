@@ -58,7 +58,7 @@ pub fn join<N: NodeStore, L: Ledger>(
     }
 }
 
-fn are_none(children: &[Option<Share>; 8]) -> bool
+pub(crate) fn are_none(children: &[Option<Share>; 8]) -> bool
     ensures none { IsTrue result → (k : ℕ) → k < 8 → name_in children.now k ≡ None }
     ensures some { ¬ IsTrue result → HasChild children.now }
 {

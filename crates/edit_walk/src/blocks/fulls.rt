@@ -4,7 +4,7 @@ ghost use Rattle.node_words.specs.shapes.Weights.{number_of_trees};
 ghost use Rattle.node_words.specs.Held.{OnlyHeldChanges};
 ghost use Rattle.node_words.specs.Gathering.{Grows};
 ghost use Rattle.node_words.specs.contents.CellShapes.{full_shape};
-ghost use Rattle.edit_walk.specs.blocks.Blocks.{height, RefusesBlock, HasAside, IsAsideFrom, IsAsideAt, KeepsRest, ComesBeside, HasFull, ReachesFull, LeadsToFull, FullBeside, GathersFull};
+ghost use Rattle.edit_walk.specs.blocks.Blocks.{height, RefusesBlock, HasAside, IsAsideFrom, IsAsideAt, KeepsRest, GainsBeside, HasFull, ReachesFull, LeadsToFull, FullBeside, GathersFull};
 
 use crate::blocks::blocks::join;
 use crate::blocks::rows::put;
@@ -25,7 +25,7 @@ pub fn full_block<N: NodeStore, L: Ledger>(
     requires level { level + 2 ≤ (N.seen store.old).plan.side }
     requires aside { HasAside (N.seen store.old) full.old }
     requires room { number_of_trees (N.seen store.old).held ≤ 4000 }
-    ensures ok { IfOk result (λ r. ComesBeside level (full_shape level) r
+    ensures ok { IfOk result (λ r. GainsBeside level (full_shape level) r
         (N.seen store.old) full.old (N.seen store.new) full.new) }
     ensures grows { OnOk result (Grows (full_shape level) (N.seen store.old) (N.seen store.new)) }
     ensures full { IfErr result
@@ -54,7 +54,7 @@ fn keep_full<N: NodeStore, L: Ledger>(
     requires aside { HasAside (N.seen store.old) full.now }
     requires reaches { IsAsideFrom level full.now }
     requires room { number_of_trees (N.seen store.old).held ≤ 4095 }
-    ensures came { ComesBeside level (full_shape level) (Some result)
+    ensures came { GainsBeside level (full_shape level) (Some result)
         (N.seen store.old) full.now (N.seen store.new) full.now }
     ensures only { OnlyHeldChanges (N.seen store.old) (N.seen store.new) }
     ensures rests { N.rests store.old store.new }

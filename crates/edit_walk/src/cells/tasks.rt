@@ -4,6 +4,7 @@ ghost use Rattle.node_words.specs.shapes.Shape.{Leaf, has};
 ghost use Rattle.node_words.specs.shapes.Tree.{Tree};
 ghost use Rattle.node_words.specs.contents.CellShapes.{Cells, SameIn, octant_cells};
 ghost use Rattle.edit_walk.specs.cells.Tasks.{Making, Lasts, MakesSome, MakesCells, ForCells, IsWhole};
+ghost use Rattle.edit_walk.specs.cells.Paints.{IsOld};
 
 use node_words::{Blocks, Name};
 
@@ -45,6 +46,12 @@ pub trait Task: Copy {
     ghost mixed: { ℕ → Self → ℕ };
 
     ghost mixed_in: { ℕ → Self → ℕ → ℕ };
+
+    /// The block as it was, or none where no block is told: so are those whose old cells don't
+    /// matter.
+    fn old(&self) -> Option<Name>
+        ensures { (base : List Tree) (level : ℕ) (cells : Cells) → makes self.now base level cells
+            → (t : Tree) × IsOld base level t result };
 
     /// The task of an octant.
     fn octant<B: Blocks>(&self, store: &mut B, level: u8, octant: u8) -> Self

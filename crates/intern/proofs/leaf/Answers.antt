@@ -9,17 +9,17 @@ use Rattle.node_words.specs.declared.keys.Key.TheVariants.{Leaf}
 use Rattle.node_words.specs.declared.shares.Full.{Full}
 use Rattle.node_words.specs.Plans.{Layout}
 use Rattle.node_table.specs.Names.{named}
-use Rattle.node_table.specs.Spots.{Spot, buckets_at}
-use Rattle.node_table.specs.Telling.{ViewTells}
+use Rattle.node_table.specs.WordIds.{WordId, buckets_at}
+use Rattle.node_table.specs.ViewFacts.{ViewFacts}
 use Rattle.node_table.specs.Views.{SeatView}
 use Rattle.node_table.specs.Changes.{HasKeyWords, PassesBelow}
 use Rattle.node_table.specs.declared.places.Place.TheVariants.{NoRoom}
 use Rattle.node_table.specs.Acts.{MayAdd}
 use Rattle.node_table.specs.Learning.{IsKnownLive}
 use Rattle.node_table.specs.Learning.IsKnownLive.{keyed}
-use Rattle.node_table.specs.Seen.{TableSeen, bucket_named}
+use Rattle.node_table.specs.TableStates.{TableState, bucket_named}
 use Rattle.node_table.proofs.Answering.{answers_keep, learns_keep}
-use Rattle.intern.specs.Leaves.{LeafCame, LeafRefused}
+use Rattle.intern.specs.Leaves.{InternsLeaf, LeafRefused}
 use Rattle.intern.proofs.LeafLaws.{no_children, searched, may_leaf, shared, added, refused, absent, kept_plan, met_leaf, leaf_sought, leaf_children}
 use Rattle.intern.proofs.leaf.Goals.{in-At, in-Free, in-NoRoom}
 use Rattle.intern.proofs.leaf.Goals as goal
@@ -54,7 +54,7 @@ publish-requires-clause-may g c =
     e.bucket.1 ∙ c.bucket_of-bucket.ensures.bucket
     ∙ ap (leaf_bucket bits)
     (c.buckets.ensures.value
-    ∙ ap (λ (x : TableSeen). buckets_at x.plan 0) (sym e.table)) in
+    ∙ ap (λ (x : TableState). buckets_at x.plan 0) (sym e.table)) in
     let held : f.pass.now.view.held ≡ c.args.pass.now.view.held =
     ap (λ (v : SeatView). v.held) a.learns.else_is ∙ ap (λ (v : SeatView). v.held) e.view in
     let room : number_of_trees f.pass.now.view.held ≤ 4095 =
@@ -62,16 +62,16 @@ publish-requires-clause-may g c =
     let base : MayAdd (t.table.now.plan) f.pass.now.view (named t.level t.bucket slot) (Leaf bits) =
     may_leaf (t.table.now.plan) f.pass.now.view t.level t.bucket bits slot e.bucket.0 some
     (let f = c.ranges.bits.fits in omega (arith, f)) bucket a.first a.none room in
-    subst (λ (x : TableSeen × ℕ × ℕ). MayAdd x.0.plan f.pass.now.view (named x.1 x.2 slot)
+    subst (λ (x : TableState × ℕ × ℕ). MayAdd x.0.plan f.pass.now.view (named x.1 x.2 slot)
     (Leaf bits)) (λ i. (sym same.0 i, sym same.1 i, sym same.2 i)) base
 
 -- after one arm of the match, where the pass is as the arm left it and the result is what it gave
 at_arm : (v : SeatView) (bits : ℕ) (m r : Result Name Full) (w u : SeatView) → w ≡ u → m ≡ r
-    → MatchResult r (λ n. LeafCame v bits n u) (λ e. LeafRefused v bits e u)
-    → MatchResult m (λ n. LeafCame v bits n w) (λ e. LeafRefused v bits e w)
+    → MatchResult r (λ n. InternsLeaf v bits n u) (λ e. LeafRefused v bits e u)
+    → MatchResult m (λ n. InternsLeaf v bits n w) (λ e. LeafRefused v bits e w)
 at_arm v bits m r w u same is h =
     subst
-    (λ (x : SeatView × Result Name Full). MatchResult x.1 (λ n. LeafCame v bits n x.0)
+    (λ (x : SeatView × Result Name Full). MatchResult x.1 (λ n. InternsLeaf v bits n x.0)
     (λ e. LeafRefused v bits e x.0)) (λ i. (sym same i, sym is i)) h
 
 pub returns-clause-taken : goal.returns-clause-taken
@@ -84,14 +84,14 @@ returns-clause-taken g c =
     (t.table.now.plan) c.find.result
     (record { row = λ _. Gone; are_held = no_children _ }) c.find.ensures.place
     ∙ ap (λ (x : SeatView). x.plan) e.view ∙ c.requires.of.plan
-    ∙ ap (λ (x : TableSeen). x.plan) (sym e.table) in
+    ∙ ap (λ (x : TableState). x.plan) (sym e.table) in
     let is : bucket ≡ leaf_bucket bits (slice_index u.plan.buckets 0) =
     c.bucket_of-bucket.ensures.bucket
     ∙ ap (leaf_bucket bits)
     (c.buckets.ensures.value
-    ∙ ap (λ (x : TableSeen). buckets_at x.plan 0) (sym e.table)
+    ∙ ap (λ (x : TableState). buckets_at x.plan 0) (sym e.table)
     ∙ ap (λ (p : Layout). slice_index p.buckets 0) (sym plan)) in
-    let here : (ws : List (Spot × ℕ)) → PassesBelow ws (Leaf bits) (bucket_named t.level t.bucket) (t.table.now.plan).cap → PassesBelow ws (Leaf bits) (record { level = 0; bucket = bucket }) u.plan.cap = λ ws h.
+    let here : (ws : List (WordId × ℕ)) → PassesBelow ws (Leaf bits) (bucket_named t.level t.bucket) (t.table.now.plan).cap → PassesBelow ws (Leaf bits) (record { level = 0; bucket = bucket }) u.plan.cap = λ ws h.
     subst (λ (x : ℕ × ℕ × Layout). PassesBelow ws (Leaf bits) (bucket_named x.0 x.1) x.2.cap)
     (λ i. (e.bucket.0 i, e.bucket.1 i, sym plan i)) h in
     let some : 0 < bits = (let n = c.requires.bits in omega arith) in
@@ -110,7 +110,7 @@ returns-clause-taken g c =
           searched v t.pass.now f.pass.now bucket e.view
           (learns_keep t.pass.now f.pass.now a.learns) in
           let now : c.match-find.pass.view ≡ w.raise.new.self.1.0.view = search rules in
-          let tells = subst ViewTells now c.tell.ensures in
+          let tells = subst ViewFacts now c.tell.ensures in
           let n : Name = named f.level f.bucket w.in-At.slot in
           let level : n.level ≡ 0 = same.1 ∙ e.bucket.0 in
           let has : HasKeyWords u.words (Leaf bits) n =
@@ -122,7 +122,7 @@ returns-clause-taken g c =
           shared v u w.raise.new.self.1.0.view bits bucket n s met level has w.raise.ensures.raised tells in
           at_arm v bits c.match-find.result
           (Ok w.raise.result) c.match-find.pass.view w.raise.new.self.1.0.view now w.result-is
-          (subst (λ (m : Name). LeafCame v bits m w.raise.new.self.1.0.view)
+          (subst (λ (m : Name). InternsLeaf v bits m w.raise.new.self.1.0.view)
           (sym w.raise.ensures.name) came))
       | in-Free w ↦ (
           let a = w.in-Free.ensures.place in
@@ -139,7 +139,7 @@ returns-clause-taken g c =
           added v u w.publish.new.self.1.0.view bits bucket n s met level none
           (w.publish.ensures.published (λ _. Gone) (no_children _)) in
           at_arm v bits c.match-find.result
-          (Ok w.publish.result) c.match-find.pass.view w.publish.new.self.1.0.view now w.result-is (subst (λ (m : Name). LeafCame v bits m w.publish.new.self.1.0.view) (sym w.publish.ensures.name) came))
+          (Ok w.publish.result) c.match-find.pass.view w.publish.new.self.1.0.view now w.result-is (subst (λ (m : Name). InternsLeaf v bits m w.publish.new.self.1.0.view) (sym w.publish.ensures.name) came))
       | in-NoRoom w ↦ (
           let a = w.in-NoRoom.ensures.place in
           let k =

@@ -19,7 +19,7 @@ use Rattle.node_words.specs.descent.Landings.{IsAtMost, IsStepDown, LandsAt, cor
 use Rattle.node_words.specs.declared.descent.landings.Landing.{Landing}
 use Rattle.node_words.proofs.OfDescent.BlockLaws.{clear_block}
 use Rattle.node_words.proofs.OfDescent.LookLaws.{twice, placed_set, same_cell, told_leaf, block_still, halves_join}
-use Rattle.node_words.specs.Held.{Seen}
+use Rattle.node_words.specs.Held.{StoreState}
 use Rattle.std.proofs.Math.Arith.{mod-mul}
 use lib.Pow.{pow_pos}
 use native.Mathlib.Nat.{mod-eq_of_lt}
@@ -186,7 +186,7 @@ lands_from held level n c t i o =
     (named_at held level n t o) there
 
 -- one level further down stands this child, or none
-step_down : (a b : Seen) (level k : ℕ) (n : Name) (child next : Option Name) (c : Cell) → b ≡ a
+step_down : (a b : StoreState) (level k : ℕ) (n : Name) (child next : Option Name) (c : Cell) → b ≡ a
     → k < 8 → inner_place level c ≡ placed (block_side (level - 1)) k (inner_place (level - 1) c)
     → IsOctantOf b.held level (Some n) k child → child ≡ next
     → IsStepDown a.held (landing_at level (Some n) c) (landing_at (level - 1) next c)
@@ -195,21 +195,21 @@ step_down a b level k n child next c same lt place octant is = record {
   is = lt;
   level = refl;
   block = subst (λ (m : Option Name). IsOctantOf a.held level (Some n) k m) is
-      (subst (λ (s : Seen). IsOctantOf s.held level (Some n) k child) same octant);
+      (subst (λ (s : StoreState). IsOctantOf s.held level (Some n) k child) same octant);
   inner = place_inside (level - 1) c;
   place = place;
 }
 
-child_named : (a b : Seen) (level k : ℕ) (n m : Name) (child : Option Name) → b ≡ a
+child_named : (a b : StoreState) (level k : ℕ) (n m : Name) (child : Option Name) → b ≡ a
     → HasBlock a.held level (Some n) → IsOctantOf b.held level (Some n) k child → child ≡ Some m
     → m ≡ at_level (level - 1) m
 child_named a b level k n m child same has octant is =
     let below =
     subst (λ (d : Option Name). IsOctantOf a.held level (Some n) k d) is
-    (subst (λ (s : Seen). IsOctantOf s.held level (Some n) k child) same octant) in
+    (subst (λ (s : StoreState). IsOctantOf s.held level (Some n) k child) same octant) in
     named_at a.held (level - 1) m (child_of has.tree k) (below has.tree has.is_block)
 
-pub step_to : (a b : Seen) (level k : ℕ) (n m : Name) (child : Option Name) (c : Cell) → b ≡ a
+pub step_to : (a b : StoreState) (level k : ℕ) (n m : Name) (child : Option Name) (c : Cell) → b ≡ a
     → k < 8 → inner_place level c ≡ placed (block_side (level - 1)) k (inner_place (level - 1) c)
     → HasBlock a.held level (Some n) → IsOctantOf b.held level (Some n) k child → child ≡ Some m
     → IsStepDown a.held (landing_at level (Some n) c)
@@ -228,7 +228,7 @@ lands_below held top level n next c t above step l =
     (place_at_most level c) step l
 
 -- where there is no child, the way ends
-pub lands_nothing : (a b : Seen) (top level k : ℕ) (n : Name) (child : Option Name) (c inner : Cell)
+pub lands_nothing : (a b : StoreState) (top level k : ℕ) (n : Name) (child : Option Name) (c inner : Cell)
     (t : Tree) → b ≡ a → 1 ≤ level → k < 8
     → inner_place level c ≡ placed (block_side (level - 1)) k (inner_place (level - 1) c)
     → IsOctantOf b.held level (Some n) k child → child ≡ None → inner ≡ inner_place (level - 1) c
@@ -343,7 +343,7 @@ clear_alone side cells c b is i e =
     subst (λ (v : Boxed). IsClearRound side cells c v) (sym is) round
 
 -- the bit of the landing's leaf tells the cell
-pub leaf_cell_is : (a b : Seen) (top : ℕ) (c : Cell) (at : Landing) (t : Tree) (bits : ℕ)
+pub leaf_cell_is : (a b : StoreState) (top : ℕ) (c : Cell) (at : Landing) (t : Tree) (bits : ℕ)
     (set is : Bool) → b ≡ a → at.level ≡ 0 → IsAtMost at.inner c
     → IsInWorld (block_side at.level) at.inner
     → ((t : Tree) → IsBlockOf b.held 0 at.block t → bits ≡ bits_of (shape_of t))

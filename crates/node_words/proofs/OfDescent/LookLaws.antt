@@ -12,7 +12,7 @@ use Rattle.node_words.proofs.OfShapes.ShapeLaws.{has-in_octant, block_side-suc}
 use lib.Pow.{pow_mono, pow_pos}
 use native.Mathlib.Nat.{mod-eq_of_lt}
 use Rattle.node_words.specs.declared.shapes.names.Name.{Name}
-use Rattle.node_words.specs.Held.{Seen}
+use Rattle.node_words.specs.Held.{StoreState}
 use Rattle.node_words.specs.descent.Roots.{cells_of, IsBlockOf}
 use Rattle.node_words.specs.descent.Parts.{placed}
 
@@ -72,9 +72,9 @@ unfolding has
 leaf_tells s bits c e = ap (λ (b : ℕ). bit_at b (bit_number c.x c.y c.z) == 1) e
 
 -- a block of a store stays one while what is seen of the store stays
-pub block_still : (a b : Seen) (level : ℕ) (name : Option Name) (t : Tree) → b ≡ a
+pub block_still : (a b : StoreState) (level : ℕ) (name : Option Name) (t : Tree) → b ≡ a
     → IsBlockOf a.held level name t → IsBlockOf b.held level name t
-block_still a b level name t e i = subst (λ (s : Seen). IsBlockOf s.held level name t) (sym e) i
+block_still a b level name t e i = subst (λ (s : StoreState). IsBlockOf s.held level name t) (sym e) i
 
 pub told_leaf : (held : List Tree) (level : ℕ) (block : Option Name) (bits : ℕ) (c : Cell)
     (set is : Bool) → level ≡ 0

@@ -3,7 +3,7 @@ use Rattle.std.proofs.Common.{◌≡◌, ◌≢◌, ℕ, zero, suc, ◌-◌, ◌
 use Rattle.std.proofs.lemmas.Bool.{cases_lt}
 use Rattle.node_words.specs.declared.shapes.names.Name.{Name}
 use Rattle.node_words.specs.shapes.Shape.{Shape, Clear, Leaf, octant_shape, branch_of, bits_of, IsPart, whole, within}
-use Rattle.node_words.specs.shapes.Tree.{Tree, Gone, LeafAt, NodeAt, node_at, root_of, child_of, shape_of, bits_in, StandsIn, itself, below, IsTreeAt}
+use Rattle.node_words.specs.shapes.Tree.{Tree, Gone, LeafAt, NodeAt, node_at, root_of, child_of, shape_of, bits_in, IsSubtree, itself, below, IsTreeAt}
 
 -- the root's name has the tree's level
 pub level_of : (level : ℕ) (t : Tree) (n : Name) → IsTreeAt level t → root_of t ≡ Some n
@@ -131,11 +131,11 @@ leaf_from_root (LeafAt m b) n h e = let f : m ≡ n = cc in rw f refl
 leaf_from_root (NodeAt m a b c d e f g i) n h r = absurd h
 
 -- an octant of a tree that stands in another stands there too
-pub stands_child : {t v : Tree} (k : ℕ) → StandsIn t v → StandsIn (child_of t k) v
+pub stands_child : {t v : Tree} (k : ℕ) → IsSubtree t v → IsSubtree (child_of t k) v
 stands_child k itself = below k itself
 stands_child k (below j s) = below j (stands_child k s)
 
-pub stands_further : {t u v : Tree} → StandsIn t u → StandsIn u v → StandsIn t v
+pub stands_further : {t u v : Tree} → IsSubtree t u → IsSubtree u v → IsSubtree t v
 stands_further s itself = s
 stands_further s (below j r) = below j (stands_further s r)
 
@@ -147,7 +147,7 @@ shape_of-some (LeafAt n b) ne e = cc
 shape_of-some (NodeAt m a b c d e f g h) ne q = cc
 
 -- the shape of a node that stands in a tree is part of the tree's
-pub part_from_stands : {t u : Tree} → root_of t ≢ None → StandsIn t u
+pub part_from_stands : {t u : Tree} → root_of t ≢ None → IsSubtree t u
     → IsPart (shape_of t) (shape_of u)
 part_from_stands ne (itself {t}) = whole (shape_of-some t ne)
 part_from_stands ne (below {u} {t} k s) =

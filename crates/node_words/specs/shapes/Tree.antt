@@ -47,9 +47,9 @@ bits_in (LeafAt n bits) = bits
 bits_in _ = 0
 
 -- u is t or stands below it
-pub data StandsIn : Tree → Tree → Type 0 where
-  itself : {t : Tree} → StandsIn t t
-  below : {u t : Tree} (k : ℕ) → StandsIn u (child_of t k) → StandsIn u t
+pub data IsSubtree : Tree → Tree → Type 0 where
+  itself : {t : Tree} → IsSubtree t t
+  below : {u t : Tree} (k : ℕ) → IsSubtree u (child_of t k) → IsSubtree u t
 
 -- no node, or a leaf, whose name is of level 0
 abbrev pub IsLeafTree : Tree → Type 0

@@ -5,7 +5,7 @@ use Rattle.std.proofs.lemmas.List.{length-set, length-replicate}
 use Rattle.core_laws.specs.Sums.{sum_below}
 use Rattle.node_words.specs.declared.shapes.names.Name.{Name}
 use Rattle.node_words.specs.Plans.{Layout, IsPlan}
-use Rattle.core_laws.specs.places.Spots.{levels, buckets_at}
+use Rattle.core_laws.specs.places.WordIds.{levels, buckets_at}
 use Rattle.core_laws.specs.places.Names.{IsName}
 use Rattle.one_store.specs.declared.entries.key_words.Pairs.{Pairs}
 use Rattle.one_store.specs.entries.Slots.{slot_place, block_place, bucket_place, number_of_buckets, slots_at, AreEnds}

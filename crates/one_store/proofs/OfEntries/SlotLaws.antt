@@ -6,7 +6,7 @@ use Rattle.core_laws.specs.Sums.{sum_below, sum_below-suc}
 use Rattle.node_words.specs.declared.shapes.names.Name.{Name}
 use Rattle.node_words.proofs.OfShapes.TreeEqual.{same_name}
 use Rattle.node_words.specs.Plans.{Layout, IsPlan}
-use Rattle.core_laws.specs.places.Spots.{levels, buckets_at}
+use Rattle.core_laws.specs.places.WordIds.{levels, buckets_at}
 use Rattle.core_laws.specs.places.Names.{IsName, named}
 use Rattle.std.specs.Prelude.{slice_index}
 use Rattle.one_store.specs.entries.Slots.{bucket_place, slot_place, block_place, number_of_buckets, number_of_blocks, slots_at, IsBucket, AreEnds}

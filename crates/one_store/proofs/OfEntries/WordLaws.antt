@@ -5,7 +5,7 @@ use Rattle.node_words.specs.declared.keys.Key.{Key}
 use Rattle.node_words.specs.declared.keys.Key.TheVariants.{Leaf, Node}
 use Rattle.node_words.specs.Held.{name_in}
 use Rattle.core_laws.specs.places.Words.{word_of_child}
-use Rattle.core_laws.specs.places.Spots.{key_words}
+use Rattle.core_laws.specs.places.WordIds.{key_words}
 use Rattle.core_laws.specs.places.KeyWords.{key_word, IsKeyAt}
 use Rattle.core_laws.proofs.OfPlaces.KeyLaws.{key_back, words_key}
 use Rattle.one_store.specs.declared.entries.key_words.Pairs.{Pairs}

@@ -7,7 +7,7 @@ use Rattle.node_words.proofs.OfShapes.WeightLaws.{weigh-nil, weigh-cons}
 use Rattle.node_words.specs.shapes.Shape.{Shape}
 use Rattle.node_words.specs.Held.{IsHeld, Wanted}
 use Rattle.one_store.proofs.OfNotes.HeldLists.{held_self}
-use Rattle.one_store.specs.notes.Told.{Told}
+use Rattle.one_store.specs.notes.StoreNotes.{StoreNotes}
 use Rattle.one_store.specs.notes.Changes.{HoldsRow, NotesGain, NotesLoss, NotesFreeing, NotesEntry, NotesFull}
 
 drop_if : ℕ → Tree → List Tree → List Tree → List Tree
@@ -59,10 +59,10 @@ with_row-weighs f row (suc k) ts =
     omega (arith, with_tree-weighs f (row k) (with_row row k ts), with_row-weighs f row k ts)
 
 -- what is noted where a share comes, goes, or makes way for a row
-pub gained : Told → Tree → Told
+pub gained : StoreNotes → Tree → StoreNotes
 gained a t = record a { held = t ∷ a.held }
 
-pub gained-notes : (a : Told) (t : Tree) → NotesGain a t (gained a t)
+pub gained-notes : (a : StoreNotes) (t : Tree) → NotesGain a t (gained a t)
 unfolding gained
 gained-notes a t =
     record {
@@ -71,10 +71,10 @@ gained-notes a t =
           record { weighs = λ f. weigh-cons f t a.held };
     }
 
-pub lost : Told → Tree → Told
+pub lost : StoreNotes → Tree → StoreNotes
 lost a t = record a { held = without t a.held }
 
-pub lost-notes : (a : Told) (t : Tree) → IsHeld a.held t → NotesLoss a t (lost a t)
+pub lost-notes : (a : StoreNotes) (t : Tree) → IsHeld a.held t → NotesLoss a t (lost a t)
 unfolding lost
 lost-notes a t h =
     record {
@@ -83,10 +83,10 @@ lost-notes a t h =
           record { weighs = λ f. omega (arith, without-weighs f t a.held (held_self a.held t h)) };
     }
 
-pub freed : Told → Tree → (ℕ → Tree) → Told
+pub freed : StoreNotes → Tree → (ℕ → Tree) → StoreNotes
 freed a t row = record a { held = with_row row 8 (without t a.held) }
 
-pub freed-notes : (a : Told) (t : Tree) (row : ℕ → Tree) → IsHeld a.held t
+pub freed-notes : (a : StoreNotes) (t : Tree) (row : ℕ → Tree) → IsHeld a.held t
     → NotesFreeing a t row (freed a t row)
 unfolding freed
 freed-notes a t row h =
@@ -139,10 +139,10 @@ without_row-weighs f row (suc k) ts h =
           (without_row row k ts) (omega (arith, h g, without_row-weighs g row k ts less)),
     )
 
-pub entered : Told → (ℕ → Tree) → Tree → Shape → Told
+pub entered : StoreNotes → (ℕ → Tree) → Tree → Shape → StoreNotes
 entered a row t shape = record a { held = t ∷ without_row row 8 a.held; made = shape ∷ a.made }
 
-pub entered-notes : (a : Told) (row : ℕ → Tree) (t : Tree) (shape : Shape) → HoldsRow a.held row
+pub entered-notes : (a : StoreNotes) (row : ℕ → Tree) (t : Tree) (shape : Shape) → HoldsRow a.held row
     → NotesEntry a row t shape (entered a row t shape)
 unfolding entered
 entered-notes a row t shape h =
@@ -160,9 +160,9 @@ entered-notes a row t shape h =
           };
     }
 
-pub full : Told → Wanted → Told
+pub full : StoreNotes → Wanted → StoreNotes
 full a w = record a { met = w ∷ a.met }
 
-pub full-notes : (a : Told) (w : Wanted) → NotesFull a w (full a w)
+pub full-notes : (a : StoreNotes) (w : Wanted) → NotesFull a w (full a w)
 unfolding full
 full-notes a w = record { held = refl; made = refl; met = refl }

@@ -8,7 +8,7 @@ use Rattle.core_laws.specs.places.Names.{IsName}
 use Rattle.one_store.specs.declared.entries.key_words.Pairs.{Pairs}
 use Rattle.one_store.specs.declared.entries.key_words.KeyWords.{KeyWords}
 use Rattle.one_store.specs.entries.Slots.{block_place, number_of_buckets, number_of_blocks, slots_at, IsBucket, AreEnds}
-use Rattle.core_laws.specs.places.Spots.{levels}
+use Rattle.core_laws.specs.places.WordIds.{levels}
 use Rattle.one_store.specs.entries.Words.{Written, book_in, leaf_bits_in, pairs_in}
 use Rattle.one_store.specs.entries.Used.{AreUsed, AreFilled}
 

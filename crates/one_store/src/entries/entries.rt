@@ -3,7 +3,7 @@ ghost use Rattle.node_words.specs.declared.shapes.names.Name.{Name};
 ghost use Rattle.node_words.specs.declared.keys.Key.TheVariants.{Node};
 ghost use Rattle.node_words.specs.Plans.{IsPlan};
 ghost use Rattle.node_words.specs.Keys.{bucket_of_key};
-ghost use Rattle.core_laws.specs.places.Spots.{levels, buckets_at};
+ghost use Rattle.core_laws.specs.places.WordIds.{levels, buckets_at};
 ghost use Rattle.core_laws.specs.places.Names.{IsName, HasNames, named, key_bits, key_child};
 ghost use Rattle.one_store.specs.entries.Slots.{bucket_place, slot_place, block_place, number_of_buckets, number_of_blocks, slots_at, IsBucket};
 ghost use Rattle.one_store.specs.entries.Coding.{key_of, pair_number};

@@ -1,5 +1,5 @@
 ghost use Rattle.std.specs.Prelude.{◌≡◌, IfOk};
-ghost use Rattle.one_store.specs.notes.Told.{nothing_told};
+ghost use Rattle.one_store.specs.notes.StoreNotes.{no_notes};
 
 use atomic_table::{Play, Seat, Table, TableRule};
 use std::alloc::{AllocError, Global};
@@ -11,37 +11,37 @@ pub struct Noted {
 }
 
 impl Model for Noted {
-    ghost use Rattle.one_store.specs.notes.Told.{Told, nothing_told, coded_told};
+    ghost use Rattle.one_store.specs.notes.StoreNotes.{StoreNotes, no_notes, coded_notes};
 
-    ghost Value = { Told };
+    ghost Value = { StoreNotes };
 
-    ghost coded = { coded_told };
+    ghost coded = { coded_notes };
 
-    ghost view = { λ _. nothing_told };
+    ghost view = { λ _. no_notes };
 }
 
 /// What is noted next. A caller picks it in its proof.
 pub trait Note {
-    ghost use Rattle.one_store.specs.notes.Told.{Told};
+    ghost use Rattle.one_store.specs.notes.StoreNotes.{StoreNotes};
 
-    ghost next: { Told };
+    ghost next: { StoreNotes };
 }
 
 impl Note for Brand {
-    ghost use Rattle.one_store.specs.notes.Told.{nothing_told};
+    ghost use Rattle.one_store.specs.notes.StoreNotes.{no_notes};
 
-    ghost next = { nothing_told };
+    ghost next = { no_notes };
 }
 
 // Whatever is noted is allowed.
 pub struct Anything;
 
 impl TableRule<(), Noted, ()> for Anything {
-    ghost use Rattle.one_store.specs.notes.Told.{nothing_told};
+    ghost use Rattle.one_store.specs.notes.StoreNotes.{no_notes};
 
     ghost holds = { λ k s. Unit {0} };
 
-    ghost first = { λ k. nothing_told };
+    ghost first = { λ k. no_notes };
 }
 
 // What is picked is noted.
@@ -64,11 +64,11 @@ pub struct Notes {
 }
 
 impl Model for Notes {
-    ghost use Rattle.one_store.specs.notes.Told.{Told, coded_told};
+    ghost use Rattle.one_store.specs.notes.StoreNotes.{StoreNotes, coded_notes};
 
-    ghost Value = { Told };
+    ghost Value = { StoreNotes };
 
-    ghost coded = { coded_told };
+    ghost coded = { coded_notes };
 
     ghost view = { λ n. n.seat.me.0 };
 }
@@ -76,7 +76,7 @@ impl Model for Notes {
 impl Notes {
     /// Nothing is noted yet.
     pub fn new(alloc: Global) -> Result<Notes, AllocError>
-        ensures { IfOk result (λ n. n ≡ nothing_told) }
+        ensures { IfOk result (λ n. n ≡ no_notes) }
     {
         let (table, seat) = Table::of_words(alloc, &[0], &())?;
         Ok(Notes { table, seat })

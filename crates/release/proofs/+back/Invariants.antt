@@ -3,7 +3,7 @@ use Rattle.node_words.specs.shapes.Tree.{Tree}
 use Rattle.node_words.specs.Held.{AreHeld}
 use Rattle.node_table.proofs.Taking.{Emptied}
 use Rattle.node_table.specs.Acts.{OnlySharesChange}
-use Rattle.node_table.specs.Seen.{BelongsTo}
+use Rattle.node_table.specs.TableStates.{BelongsTo}
 use Rattle.release.specs.Returns.{GaveRowBack}
 use Rattle.release.proofs.+back.Given as goal
 

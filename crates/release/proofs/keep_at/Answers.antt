@@ -2,7 +2,7 @@ use Rattle.std.proofs.Common.{rules, ℕ, subst}
 use Rattle.core_laws.specs.places.Names.{named}
 use Rattle.node_table.proofs.ActLaws.{reached_bucket}
 use Rattle.node_table.specs.Acts.{RaisesUnderTurn}
-use Rattle.node_table.specs.Seen.{bucket_named}
+use Rattle.node_table.specs.TableStates.{bucket_named}
 use Rattle.release.proofs.KeepLaws.{raised_now}
 use Rattle.release.proofs.keep_at.Goals as goal
 

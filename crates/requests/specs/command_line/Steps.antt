@@ -2,8 +2,8 @@
 use Rattle.std.specs.Prelude.{ℕ, Bool, true, false, List, Option, Some, None}
 use Rattle.requests.specs.command_line.Parts.{Part, Operand, Gives, Colours, NoPart}
 
-abbrev pub part_told : Bool → Option (List ℕ) → Option (List ℕ) → Part
-part_told true option text = Colours
-part_told false option None = NoPart
-part_told false None (Some text) = Operand text
-part_told false (Some option) (Some text) = Gives option text
+abbrev pub part_of_texts : Bool → Option (List ℕ) → Option (List ℕ) → Part
+part_of_texts true option text = Colours
+part_of_texts false option None = NoPart
+part_of_texts false None (Some text) = Operand text
+part_of_texts false (Some option) (Some text) = Gives option text

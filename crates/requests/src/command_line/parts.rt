@@ -1,7 +1,7 @@
 ghost use Rattle.std.specs.Prelude.{◌≡◌, ◌∷◌, ◌<◌, ◌≤◌, [], false, if◌then◌else◌, Some, None, IfSome, MatchOption, length};
 ghost use Rattle.std.specs.Option.{option_map};
 ghost use Rattle.requests.specs.command_line.Parts.{is_flag, is_operand, is_option, behind_equals, parts_of, word_alone};
-ghost use Rattle.requests.specs.command_line.Steps.{part_told};
+ghost use Rattle.requests.specs.command_line.Steps.{part_of_texts};
 ghost use Rattle.requests.specs.command_line.Texts.{texts};
 
 // The part that begins the words, and the words behind it. An operand has no option, and what is no
@@ -16,7 +16,7 @@ pub(crate) struct Step<'w> {
 
 pub(crate) fn first_part(words: &[String]) -> Option<Step<'_>>
     ensures parts { MatchOption result (parts_of (texts words.now) ≡ [])
-        (λ s. parts_of (texts words.now) ≡ part_told s.flag (option_map (λ t. t.now) s.option)
+        (λ s. parts_of (texts words.now) ≡ part_of_texts s.flag (option_map (λ t. t.now) s.option)
         (option_map (λ t. t.now) s.text) ∷ parts_of (texts s.others.now)) }
     ensures fewer { IfSome result (λ s. length s.others.now < length words.now) }
 {
@@ -29,7 +29,7 @@ pub(crate) fn first_part(words: &[String]) -> Option<Step<'_>>
 #[tactic(auto, using(crate::proofs::OfCommandLine::Heads::not_option, crate::proofs::OfCommandLine::Heads::option_alone, crate::proofs::OfCommandLine::Heads::option_then))]
 fn part_before<'w>(word: &'w str, others: &'w [String]) -> Step<'w>
     ensures parts { parts_of (word.now ∷ texts others.now)
-        ≡ part_told result.flag (option_map (λ t. t.now) result.option)
+        ≡ part_of_texts result.flag (option_map (λ t. t.now) result.option)
         (option_map (λ t. t.now) result.text) ∷ parts_of (texts result.others.now) }
     ensures fewer { length result.others.now ≤ length others.now }
 {
@@ -50,7 +50,7 @@ fn part_before<'w>(word: &'w str, others: &'w [String]) -> Step<'w>
 // A word that is no option's name.
 #[tactic(auto, using(crate::proofs::OfCommandLine::Heads::split_joined))]
 fn alone<'w>(word: &'w str, others: &'w [String]) -> Step<'w>
-    ensures part { part_told result.flag (option_map (λ t. t.now) result.option)
+    ensures part { part_of_texts result.flag (option_map (λ t. t.now) result.option)
         (option_map (λ t. t.now) result.text) ≡ word_alone word.now }
     ensures others { result.others ≡ others.entry }
 {
@@ -78,7 +78,7 @@ fn alone<'w>(word: &'w str, others: &'w [String]) -> Step<'w>
 
 // `option=value`.
 fn behind_equals<'w>(option: &'w str, value: &'w str, others: &'w [String]) -> Step<'w>
-    ensures part { part_told result.flag (option_map (λ t. t.now) result.option)
+    ensures part { part_of_texts result.flag (option_map (λ t. t.now) result.option)
         (option_map (λ t. t.now) result.text) ≡ behind_equals option.now value.now }
     ensures others { result.others ≡ others.entry }
 {

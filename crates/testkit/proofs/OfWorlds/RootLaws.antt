@@ -7,7 +7,7 @@ use Rattle.node_words.specs.shapes.Tree.{Tree, Gone, root_of}
 use Rattle.node_words.specs.shapes.Weights.{weigh, weight_of, number_of_trees}
 use Rattle.node_words.proofs.OfShapes.TreeLaws.{level_of}
 use Rattle.node_words.proofs.OfShapes.WeightLaws.{weight_of-there, weight_of-gone, weight_below-one, weigh-nil, weigh-cons}
-use Rattle.node_words.specs.Held.{Seen, HoldsName}
+use Rattle.node_words.specs.Held.{StoreState, HoldsName}
 use Rattle.node_words.specs.Gathering.{MayHold, Loses}
 use Rattle.node_words.specs.descent.Roots.{HoldsRoot}
 use Rattle.edit_walk.specs.Edits.{MayEdit, Edits}
@@ -72,12 +72,12 @@ two_new held side old new h =
     root_held held side new h.after h.is_new (λ f. omega (arith, h.weighs f))
 
 -- both are held after a call that changes nothing
-pub two_still : (a b : Seen) (level : ℕ) (old new : Option Name) → b ≡ a
+pub two_still : (a b : StoreState) (level : ℕ) (old new : Option Name) → b ≡ a
     → HoldsTwo a.held level old new → HoldsTwo b.held level old new
-two_still a b level old new e h = subst (λ (s : Seen). HoldsTwo s.held level old new) (sym e) h
+two_still a b level old new e h = subst (λ (s : StoreState). HoldsTwo s.held level old new) (sym e) h
 
 -- a version came
-pub rebuilt_two : (old new : Seen) (side : ℕ) (root name : Option Name) (world : Cell → Bool)
+pub rebuilt_two : (old new : StoreState) (side : ℕ) (root name : Option Name) (world : Cell → Bool)
     → HoldsOnly old.held (side - 2) root → Rebuilt (side - 2) world name old new
     → HoldsTwo new.held (side - 2) root name
 rebuilt_two old new side root name world h b =
@@ -101,7 +101,7 @@ same_only old new level root e h =
     record { tree = h.tree; is_root = h.is_root; weighs = λ f. omega (arith, e f, h.weighs f) }
 
 -- what an edit needs, and what it leaves
-pub only_edit : (seen : Seen) (side : ℕ) (root : Option Name) → side ≡ seen.plan.side
+pub only_edit : (seen : StoreState) (side : ℕ) (root : Option Name) → side ≡ seen.plan.side
     → HoldsOnly seen.held (side - 2) root → MayEdit 3910 seen side root
 only_edit seen side root e h = record {
   side_is = e;
@@ -109,7 +109,7 @@ only_edit seen side root e h = record {
   room = omega (arith, only_number seen.held (side - 2) root h);
 }
 
-pub edited_two : (old new : Seen) (side : ℕ) (root name : Option Name)
+pub edited_two : (old new : StoreState) (side : ℕ) (root name : Option Name)
     (edit : (Cell → Bool) → Cell → Bool) → HoldsOnly old.held (side - 2) root
     → Edits old side root edit (Ok name) new → HoldsTwo new.held (side - 2) root name
 edited_two old new side root name edit h edits =

@@ -5,14 +5,14 @@ use gate_run::Gate;
 
 /// Where a line stands: before its work, between its pin and its commit, or behind its answer.
 #[derive(Clone, Copy, Debug, PartialEq, Eq)]
-pub enum Place {
+pub enum GatePoint {
     Before,
     Between,
     After,
 }
 
 /// A session, the number of a line of its script, and a place of that line.
-pub type Moment = (u16, u32, Place);
+pub type Moment = (u16, u32, GatePoint);
 
 /// The first moment waits until the second was come to.
 pub type Rule = (Moment, Moment);
@@ -55,14 +55,14 @@ impl<'r> Meeting<'r> {
 
 impl<'r> Gate for Meeting<'r> {
     fn before(&self, session: u16, line: u32) {
-        self.come((session, line, Place::Before));
+        self.come((session, line, GatePoint::Before));
     }
 
     fn between(&self, session: u16, line: u32) {
-        self.come((session, line, Place::Between));
+        self.come((session, line, GatePoint::Between));
     }
 
     fn after(&self, session: u16, line: u32) {
-        self.come((session, line, Place::After));
+        self.come((session, line, GatePoint::After));
     }
 }

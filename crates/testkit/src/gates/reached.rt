@@ -28,8 +28,8 @@ impl Reached {
     }
 
     /// Waits until the number is told. No where that was in vain.
-    // On a busy machine the other worker may have no processor. So behind each look this one gives its
-    // own away, and waits for long before it gives up.
+    // On a busy machine the other worker may have no processor. So behind each look this one gives
+    // its own away, and waits for long before it gives up.
     pub(crate) fn comes_to(&self, number: u32) -> bool {
         for _ in 0..MOST_LOADS {
             if self.is_told(number) {

@@ -6,13 +6,13 @@ use Rattle.node_words.specs.declared.shapes.names.Name.{Name}
 use Rattle.node_words.specs.shapes.Tree.{Tree}
 use Rattle.node_words.proofs.OfShapes.TreeLaws.{level_of}
 use Rattle.node_words.proofs.OfShapes.WeightLaws.{weight_of-there}
-use Rattle.node_words.specs.Held.{Seen}
+use Rattle.node_words.specs.Held.{StoreState}
 use Rattle.node_words.specs.descent.Roots.{HoldsRoot}
 use Rattle.edit_walk.specs.cells.Worlds.{ForEdited, Rebuilt}
 use Rattle.edit_walk.proofs.OfCells.WorldLaws.{root_shown}
 use Rattle.dag_file.specs.Lists.{Listed, HoldsList, DoNumbersRise, AreNumbersSmall}
 
-root_held : (old new : Seen) (side : ℕ) (name : Option Name) (world : Cell → Bool)
+root_held : (old new : StoreState) (side : ℕ) (name : Option Name) (world : Cell → Bool)
     → Rebuilt (side - 2) world name old new → HoldsRoot new.held side name
 root_held old new side None world b = tt
 root_held old new side (Some n) world b = (
@@ -27,7 +27,7 @@ root_held old new side (Some n) world b = (
   level_of (side - 2) b.tree n b.levels b.root,
 )
 
-pub made_held : (old new : Seen) (side : ℕ) (root made name : Option Name)
+pub made_held : (old new : StoreState) (side : ℕ) (root made name : Option Name)
     (edit : (Cell → Bool) → Cell → Bool) → root ≡ None → name ≡ made
     → ForEdited old side root edit (λ world. Rebuilt (side - 2) world made old new)
     → HoldsRoot new.held side name

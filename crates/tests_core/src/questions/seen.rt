@@ -144,7 +144,8 @@ enum Edit {
     CopyTo(u16, u16, u16),
 }
 
-/// Boxes that are set in a world of side 64, an edit of a box, and the least box of what it changes.
+/// Boxes that are set in a world of side 64, an edit of a box, and the least box of what it
+/// changes.
 const CHANGES: &[(&[[u16; 6]], Edit, [u16; 6], Option<[u16; 6]>)] = &[
     (&[], Edit::Set, [3, 4, 5, 1, 1, 1], Some([3, 4, 5, 1, 1, 1])),
     // what is set already doesn't change

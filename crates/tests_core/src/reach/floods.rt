@@ -1,6 +1,6 @@
 ghost use Rattle.std.specs.Prelude.{◌≡◌, ◌≤◌, ◌<◌, ◌^◌, option_copied};
 ghost use Rattle.vw_cell.specs.Places.{FitsAt, IsInBox};
-ghost use Rattle.one_store.specs.Known.{known_seen};
+ghost use Rattle.one_store.specs.Known.{known_state};
 ghost use Rattle.node_words.specs.descent.Roots.{HoldsRoot};
 
 use edit_stamp::{Stencil, rebuild_stamp};
@@ -80,7 +80,7 @@ fn found_in(
     b: Boxed,
     from: Cell,
 ) -> Option<Region>
-    requires root { HoldsRoot (known_seen store.old).held side (option_copied root) }
+    requires root { HoldsRoot (known_state store.old).held side (option_copied root) }
     requires inside { FitsAt b.at b.size (2 ^ side) }
     requires small { (b.size.x ≤ 256) × (b.size.y ≤ 256) × (b.size.z ≤ 256) }
     requires from { IsInBox b from }

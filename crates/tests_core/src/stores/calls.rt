@@ -1,7 +1,7 @@
 ghost use Rattle.std.specs.Prelude.{◌≡◌, ◌≢◌, ◌≤◌, None};
 ghost use Rattle.node_words.specs.shapes.Weights.{number_of_trees};
 ghost use Rattle.node_words.specs.Held.{HoldsName};
-ghost use Rattle.one_store.specs.Known.{known_seen, stored_root};
+ghost use Rattle.one_store.specs.Known.{known_state, stored_root};
 
 use node_words::{Full, Name, NodeRefused, NodeStore, Share, Steps, spend_all};
 use one_store::OneStore;
@@ -10,7 +10,7 @@ use std::sync::ledger::Ledger;
 /// The name of a leaf that was taken, and stays held.
 pub fn kept<L: Ledger>(store: &mut OneStore, bits: u64, steps: &mut Steps<L>) -> Result<Name, Full>
     requires bits { bits ≢ 0 }
-    requires room { number_of_trees (known_seen store.old).held ≤ 4000 }
+    requires room { number_of_trees (known_state store.old).held ≤ 4000 }
     ensures plan { store.new.words.plan ≡ store.old.words.plan }
 {
     match store.leaf(bits, steps) {
@@ -27,7 +27,7 @@ pub fn returned<L: Ledger>(
     steps: &mut Steps<L>,
 ) -> Result<Name, Full>
     requires bits { bits ≢ 0 }
-    requires room { number_of_trees (known_seen store.old).held ≤ 4000 }
+    requires room { number_of_trees (known_state store.old).held ≤ 4000 }
     ensures plan { store.new.words.plan ≡ store.old.words.plan }
 {
     match store.leaf(bits, steps) {
@@ -48,7 +48,7 @@ pub fn joined<L: Ledger>(
 ) -> Result<Name, Full>
     requires bits { bits ≢ 0 }
     requires side { 3 ≤ store.old.words.plan.side }
-    requires room { number_of_trees (known_seen store.old).held ≤ 4000 }
+    requires room { number_of_trees (known_state store.old).held ≤ 4000 }
     ensures plan { store.new.words.plan ≡ store.old.words.plan }
 {
     match store.leaf(bits, steps) {
@@ -58,10 +58,10 @@ pub fn joined<L: Ledger>(
 }
 
 fn over<L: Ledger>(store: &mut OneStore, leaf: Share, steps: &mut Steps<L>) -> Result<Name, Full>
-    requires leaf { HoldsName (known_seen store.old).held leaf }
+    requires leaf { HoldsName (known_state store.old).held leaf }
     requires level { leaf.level ≡ 0 }
     requires side { 3 ≤ store.old.words.plan.side }
-    requires room { number_of_trees (known_seen store.old).held ≤ 4001 }
+    requires room { number_of_trees (known_state store.old).held ≤ 4001 }
     ensures plan { store.new.words.plan ≡ store.old.words.plan }
 {
     let children = [None, None, None, Some(leaf), None, None, None, None];
@@ -84,7 +84,7 @@ pub fn rooted<L: Ledger>(
 ) -> Result<Name, Full>
     requires bits { bits ≢ 0 }
     requires side { store.old.words.plan.side ≤ 2 }
-    requires room { number_of_trees (known_seen store.old).held ≤ 4000 }
+    requires room { number_of_trees (known_state store.old).held ≤ 4000 }
     requires place { place ≤ 65535 }
     requires empty { stored_root store.old.roots place ≡ None }
 {

@@ -1,6 +1,6 @@
 ghost use Rattle.std.specs.Prelude.{◌≡◌, ◌≤◌, ◌^◌, option_copied};
 ghost use Rattle.node_words.specs.descent.Roots.{HoldsRoot};
-ghost use Rattle.dag_file.specs.Trees.{opened_seen};
+ghost use Rattle.dag_file.specs.Trees.{opened_state};
 ghost use Rattle.vw_cell.specs.Places.{FitsAt};
 
 use dag_file::{DagFault, DagView};
@@ -50,7 +50,7 @@ fn version_count(view: DagView<'_>, version: u32) -> Counted {
 }
 
 fn whole_count(view: &mut DagView<'_>, root: Option<&Share>, side: Side) -> u64
-    requires root { HoldsRoot (opened_seen view.old).held side (option_copied root) }
+    requires root { HoldsRoot (opened_state view.old).held side (option_copied root) }
 {
     let n = side.cells() as u16;
     let at = vw_cell::Cell { x: 0, y: 0, z: 0 };

@@ -107,7 +107,7 @@ fn root_of<L: Ledger>(store: &mut OneStore, place: u32, blank: Blank) -> Result<
     requires parts { blank.parts ≡ L.parts }
     requires some { 0 < L.parts }
     requires side { store.old.words.plan.side ≤ 2 }
-    requires room { number_of_trees (known_seen store.old).held ≤ 4000 }
+    requires room { number_of_trees (known_state store.old).held ≤ 4000 }
     requires place { place ≤ 65535 }
     requires empty { stored_root store.old.roots place ≡ None }
 {
@@ -116,7 +116,7 @@ fn root_of<L: Ledger>(store: &mut OneStore, place: u32, blank: Blank) -> Result<
 }
 
 ghost use Rattle.node_words.specs.shapes.Weights.{number_of_trees};
-ghost use Rattle.one_store.specs.Known.{known_seen};
+ghost use Rattle.one_store.specs.Known.{known_state};
 
 // A world of one leaf, of one slot.
 #[test]

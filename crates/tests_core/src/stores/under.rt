@@ -3,7 +3,7 @@ ghost use Rattle.std.specs.Prelude.{◌≡◌, ◌≢◌, ◌<◌, ◌≤◌, If
 ghost use Rattle.node_words.specs.shapes.Tree.{bits_in};
 ghost use Rattle.node_words.specs.shapes.Weights.{number_of_trees};
 ghost use Rattle.node_words.specs.Held.{HoldsName, ForHeld, SameHeld};
-ghost use Rattle.one_store.specs.Known.{known_seen};
+ghost use Rattle.one_store.specs.Known.{known_state};
 
 use node_words::{Full, NodeStore, Plan, Share, Steps, Under, has_cell};
 use one_store::OneStore;
@@ -63,8 +63,9 @@ fn ask_cell<L: Ledger>(store: &mut OneStore, x: u16, blank: Blank) -> Result<boo
     requires parts { blank.parts ≡ L.parts }
     requires some { 0 < L.parts }
     requires cell { x < 4 }
-    requires room { number_of_trees (known_seen store.old).held ≤ 4000 }
-    ensures held { OnOk result (SameHeld (known_seen store.old).held (known_seen store.new).held) }
+    requires room { number_of_trees (known_state store.old).held ≤ 4000 }
+    ensures held { OnOk result
+        (SameHeld (known_state store.old).held (known_state store.new).held) }
 {
     let mut steps: Steps<L> = Steps::start(blank);
     made_and_asked(store, x, &mut steps)
@@ -90,8 +91,9 @@ fn read_back<L: Ledger>(store: &mut OneStore, bits: u64, blank: Blank) -> Result
     requires parts { blank.parts ≡ L.parts }
     requires some { 0 < L.parts }
     requires bits { bits ≢ 0 }
-    requires room { number_of_trees (known_seen store.old).held ≤ 4000 }
-    ensures held { OnOk result (SameHeld (known_seen store.old).held (known_seen store.new).held) }
+    requires room { number_of_trees (known_state store.old).held ≤ 4000 }
+    ensures held { OnOk result
+        (SameHeld (known_state store.old).held (known_state store.new).held) }
     ensures bits { IfOk result (λ read. read ≡ bits) }
 {
     let mut steps: Steps<L> = Steps::start(blank);

@@ -1,6 +1,6 @@
 ghost use Rattle.std.specs.Prelude.{◌≡◌, ◌<◌, ◌≤◌, ◌^◌};
 ghost use Rattle.node_words.specs.descent.Roots.{HoldsRoot};
-ghost use Rattle.one_store.specs.Known.{known_seen};
+ghost use Rattle.one_store.specs.Known.{known_state};
 ghost use Rattle.vw_cell.specs.Places.{FitsAt};
 
 use dag_file::write_dag;
@@ -73,7 +73,7 @@ fn two_versions(
     file: &mut Vec<u8>,
 ) -> bool
     requires low { 2 ≤ side }
-    requires root { HoldsRoot (known_seen store.old).held side root }
+    requires root { HoldsRoot (known_state store.old).held side root }
 {
     let roots = [(0, None), (1, root)];
     let _live = store.held();

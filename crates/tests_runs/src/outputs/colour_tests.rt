@@ -4,7 +4,7 @@ use std::alloc::Global;
 use std::sync::Wait;
 use std::test::Fail;
 use std::thread::Threads;
-use testkit::{Place, Rule};
+use testkit::{GatePoint, Rule};
 use tests_program::{ANSWERS, GOOD, ends, ends_by, has, holds, lacks, shelf_with};
 use vw_io::{MemoryShelf, Shelf};
 
@@ -357,7 +357,7 @@ fn versions_of_a_coloured_journal_are_written(rt: HostRuntime) -> Result<(), Fai
 }
 
 // The second script begins when the first has ended.
-const IN_TURN: &[Rule] = &[((1, 1, Place::Before), (0, 2, Place::After))];
+const IN_TURN: &[Rule] = &[((1, 1, GatePoint::Before), (0, 2, GatePoint::After))];
 
 const BOTH_JOURNAL: &str =
     "voxdag journal 2\nside 8\n1 0 1 fill 0 0 0 1 1 1 5\n2 1 1 fill 0 0 0 1 1 1 2\nend\n";

@@ -4,7 +4,7 @@ use std::alloc::Global;
 use std::sync::Wait;
 use std::test::Fail;
 use std::thread::Threads;
-use testkit::{Place, Rule};
+use testkit::{GatePoint, Rule};
 use tests_program::{ANSWERS, GOOD, ONE, ends, ends_by, has, holds, lacks, shelf_with};
 use vw_io::Shelf;
 
@@ -108,7 +108,7 @@ fn a_save_outlives_its_version(rt: HostRuntime) -> Result<(), Fail> {
 }
 
 // The script of two changes has its last answer, on line 3, before the second script begins.
-const IN_TURN: &[Rule] = &[((1, 1, Place::Before), (0, 3, Place::After))];
+const IN_TURN: &[Rule] = &[((1, 1, GatePoint::Before), (0, 3, GatePoint::After))];
 
 const STAMP: &str = "stamp 0 7 7 7\nat 1 count 0 0 0 8 8 8\n";
 

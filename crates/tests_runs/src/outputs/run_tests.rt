@@ -2,7 +2,7 @@ use std::alloc::Global;
 use std::sync::Wait;
 use std::test::Fail;
 use std::thread::Threads;
-use testkit::{Place, Rule};
+use testkit::{GatePoint, Rule};
 use tests_program::{
     ANSWERS, GOOD, JOURNAL, ONE, TWO, ends, ends_by, has, holds, holds_last, is_end, is_refused,
     lacks, one_fault, repeated, shelf_with, voxdag, words_of,
@@ -154,7 +154,7 @@ fn inputs_must_be_there(rt: HostRuntime) -> Result<(), Fail> {
 }
 
 // The script of two changes has its last answer, on line 3, before the second script begins.
-const IN_TURN: &[Rule] = &[((1, 1, Place::Before), (0, 3, Place::After))];
+const IN_TURN: &[Rule] = &[((1, 1, GatePoint::Before), (0, 3, GatePoint::After))];
 
 // The transcript of the stamp behind the two changes, as session 1, and the journal of both.
 const SECOND: &str = "1 @3 ok\n2 @3 count 2\n";

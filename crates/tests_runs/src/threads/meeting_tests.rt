@@ -4,7 +4,7 @@ use std::alloc::Global;
 use std::sync::Wait;
 use std::test::Fail;
 use std::thread::Threads;
-use testkit::Place::{After, Before, Between};
+use testkit::GatePoint::{After, Before, Between};
 use testkit::{Meeting, Rule};
 use tests_program::{ask, ask_gated, has, is_end, shelf_with};
 use vw_io::Shelf;

@@ -6,8 +6,8 @@ use std::alloc::Global;
 use std::sync::Wait;
 use std::test::Fail;
 use std::thread::Threads;
+use testkit::GatePoint::{After, Before};
 use testkit::Meeting;
-use testkit::Place::{After, Before};
 use transcript::{Answer, LineAnswer};
 use vox_read::Models;
 use vw_cell::Side;
@@ -39,7 +39,7 @@ fn run<R: Threads + Wait + Sync, G: Gate + Sync>(
         tint: false,
         keep: 0,
     };
-    let run = run_scripts(rt, gate, alloc, &plan, &models, &[one, two], settings).map_err(
+    let run = run_scripts(rt, gate, alloc, &plan, models, &[one, two], settings).map_err(
         |_| "no memory",
     )?;
     let ScriptsRun {

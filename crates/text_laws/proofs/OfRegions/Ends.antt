@@ -21,8 +21,8 @@ use Rattle.transcript.specs.declared.answers.Answer.{Answer}
 use Rattle.transcript.specs.declared.answers.LineAnswer.{LineAnswer}
 use Rattle.conformance.specs.Agreeing.{InOrder}
 use Rattle.conformance.specs.Answers.{Answers, LineFits, Names, LooksUp, asked_version, tells, no_version, forgotten}
-use Rattle.conformance.specs.Telling.{Tells, count}
-use Rattle.text_laws.specs.regions.LastCounts.{count_told}
+use Rattle.conformance.specs.QuestionAnswers.{AnswersTo, count}
+use Rattle.text_laws.specs.regions.LastCounts.{count_in_answer}
 use Rattle.text_laws.proofs.OfRegions.Showing.{script_of, tail_pairs, head_pairs}
 
 abbrev pub version_asked : Command → Option ℕ
@@ -38,14 +38,14 @@ box_asked d (Count b) = b
 box_asked d _ = d
 
 told_is : (side : ℕ) (w : World) (t : Tints) (b : Boxed) (q : Question) (a : Answer) → q ≡ Count b
-    → Tells side w t q a → count_told a ≡ number_in b w
+    → AnswersTo side w t q a → count_in_answer a ≡ number_in b w
 told_is side w t b q a e (count of cells is) = is ∙ ap (λ c. number_in c w) (ap (box_asked b) e)
 told_is side w t b q a e other = absurd (let bad : ⊥ = cc in bad)
 
 pub count_is : (p : Layout) (models : List Content) (log : Log) (R : ℕ → Type 0)
     (session line n : ℕ) (b : Boxed) (c : Command) (a : Answer) → c ≡ Ask None (Count b)
     → Answers p models log R session line n c a
-    → count_told a ≡ number_in b (world_has models log.records n)
+    → count_in_answer a ≡ number_in b (world_has models log.records n)
 count_is p models log R session line n b c a e (tells version question answer readable tell) =
     let at : version ≡ None = ap version_asked e in
     let of : question ≡ Count b = ap (question_asked question) e in

@@ -13,7 +13,7 @@ use Rattle.history_model.specs.Logs.{Log}
 use Rattle.history_model.specs.Moments.{world_has}
 use Rattle.transcript.specs.declared.answers.LineAnswer.{LineAnswer}
 use Rattle.conformance.specs.Agreeing.{SessionAgrees, InOrder}
-use Rattle.conformance.specs.Answers.{IsStanding}
+use Rattle.conformance.specs.Answers.{IsUnforgotten}
 use Rattle.conformance.specs.Shown.{Accepted, SameItems, numbered, accepted_in}
 use Rattle.conformance.specs.Passes.{own_of}
 use Rattle.conformance.specs.Statements.{AllRecordsAreOwn}
@@ -120,7 +120,7 @@ one_region p model log session x acts t part low same all none =
     let n = part.end.line.at in
     let told : last_count t ≡ number_in (region_box x) (world_has (model ∷ []) log.records n) =
     ap line_count part.end.last
-    ∙ count_is p (model ∷ []) log (IsStanding log.marks session 201 n) session 201 n
+    ∙ count_is p (model ∷ []) log (IsUnforgotten log.marks session 201 n) session 201 n
     (region_box x) _ part.end.line.answer refl part.end.fits.answers in
     let whole : length (shown session x acts t) ≡ length acts = all ∙ sym part.region.number in
     told ∙ number_below-same (record { x = 64; y = 256; z = 256 })

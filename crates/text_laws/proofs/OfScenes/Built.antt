@@ -8,9 +8,9 @@ use Rattle.vw_cell.specs.Places.{FitsAt}
 use Rattle.vox_read.specs.Contents.{Content, IsModel}
 use Rattle.vox_read.proofs.Sound.{models_of_file}
 use Rattle.history_model.specs.Worlds.{nothing}
-use Rattle.vox_scene.specs.declared.turnings.Vector.{Vector}
-use Rattle.vox_scene.specs.Placing.{Stand, IsTurned, AreTurned, IsPlaced, EndsWithin, AllEndWithin}
-use Rattle.vox_scene.specs.Scenes.{HasStands}
+use Rattle.vox_scene.specs.declared.rotations.Vector.{Vector}
+use Rattle.vox_scene.specs.Placing.{SceneInstance, IsRotated, AreRotated, IsPlaced, EndsWithin, AllEndWithin}
+use Rattle.vox_scene.specs.Scenes.{HasInstances}
 use Rattle.vox_scene.specs.Sound.{IsSound}
 use Rattle.vox_scene.proofs.Matrices.{all_turn, sound_stands, AllTurn}
 use Rattle.vox_scene.proofs.ReadBack.{models_are_read}
@@ -18,15 +18,15 @@ use Rattle.text_laws.specs.scenes.Building.{stamps_from, AllFitAt, ScenesAreBuil
 use Rattle.text_laws.proofs.OfScenes.ReadStamps.{all_numbered, stamps_read}
 use Rattle.text_laws.proofs.OfScenes.Unions.{stamps_tell, stamps_hold}
 
-sound_of : (bytes : List ℕ) (stands : List Stand) → HasStands bytes (Ok stands) → All IsSound stands
+sound_of : (bytes : List ℕ) (stands : List SceneInstance) → HasInstances bytes (Ok stands) → All IsSound stands
 sound_of bytes stands has =
     sound_stands has.models has.nodes stands (models_of_file bytes has.models has.has).each
     (subst AllTurn (sym has.are.are)
     (all_turn bytes has.are.main.first has.are.children)) has.walked
 
 -- one model at its place
-fits_one : (least : Vector) (side : ℕ) (s : Stand) (m : Content) (at : Cell) → IsModel m
-    → IsTurned s.model s.turning m → IsPlaced least s at → EndsWithin least side s
+fits_one : (least : Vector) (side : ℕ) (s : SceneInstance) (m : Content) (at : Cell) → IsModel m
+    → IsRotated s.model s.axis_map m → IsPlaced least s at → EndsWithin least side s
     → FitsAt at m.size side
 fits_one least side s m at is turned placed ends =
     let wide = ap (λ (c : Cell). c.x) turned.size in
@@ -45,8 +45,8 @@ fits_one least side s m at is turned placed ends =
       z = (size.z.0, omega (arith, ints, high, of_z, to_z));
     }
 
-fit_all : (least : Vector) (side : ℕ) (stands : List Stand) (models : List Content)
-    (places : List Cell) → All IsModel models → AreTurned stands models
+fit_all : (least : Vector) (side : ℕ) (stands : List SceneInstance) (models : List Content)
+    (places : List Cell) → All IsModel models → AreRotated stands models
     → AllZip (IsPlaced least) stands places → AllEndWithin least stands side
     → AllFitAt side models places
 fit_all least side [] [] [] are turned placed ends = tt

@@ -3,12 +3,12 @@ use Rattle.std.proofs.Common.{◌≡◌, ℕ, ◌-◌, ◌<◌, Bool, true, fals
 use Rattle.std.specs.Prelude.{◌≢◌}
 use Rattle.vw_cell.specs.declared.cells.Cell.{Cell}
 use Rattle.vw_cell.specs.Counts.{IsBelow}
-use Rattle.vox_scene.specs.declared.turnings.Axis.{Axis}
-use Rattle.vox_scene.specs.declared.turnings.Axis.TheVariants.{X, Y, Z}
-use Rattle.vox_scene.specs.declared.turnings.Row.{Row}
-use Rattle.vox_scene.specs.declared.turnings.Turning.{Turning}
+use Rattle.vox_scene.specs.declared.rotations.Axis.{Axis}
+use Rattle.vox_scene.specs.declared.rotations.Axis.TheVariants.{X, Y, Z}
+use Rattle.vox_scene.specs.declared.rotations.Row.{Row}
+use Rattle.vox_scene.specs.declared.rotations.Rotation.{Rotation}
 use Rattle.vox_scene.specs.Painted.{IsMatrix}
-use Rattle.vox_scene.specs.Placing.{extent_at, turned_size, turned_to, turned_place}
+use Rattle.vox_scene.specs.Placing.{extent_at, rotated_size, rotated_axis, rotated_cell}
 
 -- ---- one axis
 
@@ -25,7 +25,7 @@ back_to row size at = other_end row.is_negative (extent_at row.column size) at
 
 row_back : (row : Row) (size from : Cell) (at : ℕ) → at < extent_at row.column size
     → extent_at row.column from ≡ back_to row size at
-    → (turned_to row size from ≡ at) × (extent_at row.column from < extent_at row.column size)
+    → (rotated_axis row size from ≡ at) × (extent_at row.column from < extent_at row.column size)
 row_back row size from at lt is =
     by_sign row.is_negative (extent_at row.column size) (extent_at row.column from) at lt is
 
@@ -36,17 +36,17 @@ below_on axis other from size same lt =
 
 -- ---- all three
 
-pub record ComesFrom (r : Turning) (size at from : Cell) : Type 0 where
+pub record ComesFrom (r : Rotation) (size at from : Cell) : Type 0 where
   pub inside : IsBelow size from
-  pub x : turned_to r.x size from ≡ at.x
-  pub y : turned_to r.y size from ≡ at.y
-  pub z : turned_to r.z size from ≡ at.z
+  pub x : rotated_axis r.x size from ≡ at.x
+  pub y : rotated_axis r.y size from ≡ at.y
+  pub z : rotated_axis r.z size from ≡ at.z
 
-abbrev Comes : Turning → Cell → Cell → Type 0
+abbrev Comes : Rotation → Cell → Cell → Type 0
 Comes r size at = (from : Cell) × ComesFrom r size at from
 
-by_axes : (a b c : Axis) (r : Turning) (size at : Cell) → r.x.column ≡ a → r.y.column ≡ b
-    → r.z.column ≡ c → a ≢ b → a ≢ c → b ≢ c → IsBelow (turned_size r size) at → Comes r size at
+by_axes : (a b c : Axis) (r : Rotation) (size at : Cell) → r.x.column ≡ a → r.y.column ≡ b
+    → r.z.column ≡ c → a ≢ b → a ≢ c → b ≢ c → IsBelow (rotated_size r size) at → Comes r size at
 by_axes X X X r size at of_x of_y of_z ab ac bc below = absurd (ab refl)
 by_axes X X Y r size at of_x of_y of_z ab ac bc below = absurd (ab refl)
 by_axes X X Z r size at of_x of_y of_z ab ac bc below = absurd (ab refl)
@@ -213,7 +213,7 @@ by_axes Z Z X r size at of_x of_y of_z ab ac bc below = absurd (ab refl)
 by_axes Z Z Y r size at of_x of_y of_z ab ac bc below = absurd (ab refl)
 by_axes Z Z Z r size at of_x of_y of_z ab ac bc below = absurd (ab refl)
 
-pub turns_back : (r : Turning) (size at : Cell) → IsMatrix r → IsBelow (turned_size r size) at
+pub turns_back : (r : Rotation) (size at : Cell) → IsMatrix r → IsBelow (rotated_size r size) at
     → Comes r size at
 turns_back r size at matrix below =
     by_axes r.x.column r.y.column r.z.column r size at refl refl refl matrix.first matrix.second
@@ -233,13 +233,13 @@ column_below Y from size below = below.y
 column_below Z from size below = below.z
 
 row_below : (row : Row) (size from : Cell) → IsBelow size from
-    → turned_to row size from < extent_at row.column size
+    → rotated_axis row size from < extent_at row.column size
 row_below row size from below =
     sign_below row.is_negative (extent_at row.column size) (extent_at row.column from)
     (column_below row.column from size below)
 
-pub place_below : (r : Turning) (size from : Cell) → IsBelow size from
-    → IsBelow (turned_size r size) (turned_place r size from)
+pub place_below : (r : Rotation) (size from : Cell) → IsBelow size from
+    → IsBelow (rotated_size r size) (rotated_cell r size from)
 place_below r size from below = record {
   x = row_below r.x size from below;
   y = row_below r.y size from below;

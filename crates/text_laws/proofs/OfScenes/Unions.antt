@@ -10,10 +10,10 @@ use Rattle.vw_cell.specs.Places.{IsInBox, is_in_box}
 use Rattle.vw_cell.specs.Tests.{is_in_box_tells, is_in_box_holds}
 use Rattle.vox_read.specs.Contents.{Content, is_cell}
 use Rattle.history_model.specs.Worlds.{World, is_in_stamp, less, box_at}
-use Rattle.vox_scene.specs.declared.turnings.Vector.{Vector}
+use Rattle.vox_scene.specs.declared.rotations.Vector.{Vector}
 use Rattle.vox_scene.specs.Painted.{IsMatrix}
 use Rattle.vox_scene.specs.Sound.{IsSound}
-use Rattle.vox_scene.specs.Placing.{Stand, IsTurned, AreTurned, IsPlaced, turned_size, turned_place}
+use Rattle.vox_scene.specs.Placing.{SceneInstance, IsRotated, AreRotated, IsPlaced, rotated_size, rotated_cell}
 use Rattle.text_laws.specs.scenes.Building.{stamps_from, edited_by, IsCellOf, IsPlacedCell}
 use Rattle.text_laws.proofs.OfScenes.ReadStamps.{Numbered, later, first_of}
 use Rattle.text_laws.proofs.OfScenes.TurnsBack.{turns_back, place_below}
@@ -23,13 +23,13 @@ use Rattle.text_laws.proofs.OfScenes.TurnsBack.{turns_back, place_below}
 same_cell : (a b : Cell) → a.x ≡ b.x → a.y ≡ b.y → a.z ≡ b.z → a ≡ b
 same_cell a b x y z = λ i. record { x = x i; y = y i; z = z i }
 
-alike : (s : Stand) (m : Content) → IsTurned s.model s.turning m → (from : Cell)
+alike : (s : SceneInstance) (m : Content) → IsRotated s.model s.axis_map m → (from : Cell)
     → IsBelow s.model.size from
-    → is_cell m.voxels (turned_place s.turning s.model.size from) ≡ is_cell s.model.voxels from
+    → is_cell m.voxels (rotated_cell s.axis_map s.model.size from) ≡ is_cell s.model.voxels from
 alike s m turned from inside = ap (λ (c : ℕ). not (c == 0)) (turned.cells from inside)
 
-stamp_tells : (least : Vector) (s : Stand) (m : Content) (at p : Cell) → IsMatrix s.turning
-    → IsTurned s.model s.turning m → IsPlaced least s at → is_in_stamp (Some m) at p ≡ true
+stamp_tells : (least : Vector) (s : SceneInstance) (m : Content) (at p : Cell) → IsMatrix s.axis_map
+    → IsRotated s.model s.axis_map m → IsPlaced least s at → is_in_stamp (Some m) at p ≡ true
     → IsCellOf least p s
 stamp_tells least s m at p matrix turned placed is =
     let both = and_parts (is_in_box (box_at at m.size) p) (is_cell m.voxels (less p at)) is in
@@ -37,15 +37,15 @@ stamp_tells least s m at p matrix turned placed is =
     let wide = ap (λ (c : Cell). c.x) turned.size in
     let deep = ap (λ (c : Cell). c.y) turned.size in
     let high = ap (λ (c : Cell). c.z) turned.size in
-    let below : IsBelow (turned_size s.turning s.model.size) (less p at) = record {
+    let below : IsBelow (rotated_size s.axis_map s.model.size) (less p at) = record {
       x = omega (arith, box.x.0, box.x.1, wide);
       y = omega (arith, box.y.0, box.y.1, deep);
       z = omega (arith, box.z.0, box.z.1, high);
     } in
-    let found = turns_back s.turning s.model.size (less p at) matrix below in
+    let found = turns_back s.axis_map s.model.size (less p at) matrix below in
     let there = found.1 in
-    let same : turned_place s.turning s.model.size found.0 ≡ less p at =
-    same_cell (turned_place s.turning s.model.size found.0) (less p at) there.x there.y there.z in
+    let same : rotated_cell s.axis_map s.model.size found.0 ≡ less p at =
+    same_cell (rotated_cell s.axis_map s.model.size found.0) (less p at) there.x there.y there.z in
     let on_x = there.x in
     let on_y = there.y in
     let on_z = there.z in
@@ -68,13 +68,13 @@ past_corner : (least corner : ℤ) (at p q : ℕ) → least +ℤ pos at ≡ corn
     → least +ℤ pos p ≡ corner +ℤ pos q → p ≡ at + q
 past_corner least corner at p q placed is = omega (arith, ints, placed, is)
 
-stamp_holds : (least : Vector) (s : Stand) (m : Content) (at p : Cell)
-    → IsTurned s.model s.turning m → IsPlaced least s at → IsCellOf least p s
+stamp_holds : (least : Vector) (s : SceneInstance) (m : Content) (at p : Cell)
+    → IsRotated s.model s.axis_map m → IsPlaced least s at → IsCellOf least p s
     → is_in_stamp (Some m) at p ≡ true
 stamp_holds least s m at p turned placed c =
-    let q : Cell = turned_place s.turning s.model.size c.from in
-    let below : IsBelow (turned_size s.turning s.model.size) q =
-    place_below s.turning s.model.size c.from c.inside in
+    let q : Cell = rotated_cell s.axis_map s.model.size c.from in
+    let below : IsBelow (rotated_size s.axis_map s.model.size) q =
+    place_below s.axis_map s.model.size c.from c.inside in
     let wide = ap (λ (d : Cell). d.x) turned.size in
     let deep = ap (λ (d : Cell). d.y) turned.size in
     let high = ap (λ (d : Cell). d.z) turned.size in
@@ -109,17 +109,17 @@ left_true : (a b : Bool) → a ≡ true → (a || b) ≡ true
 left_true true b is = refl
 left_true false b is = absurd cc
 
--- a stand of the rest is one of all
-among : (s : Stand) (stands : List Stand) (least : Vector) (p : Cell)
+-- an instance of the rest is one of all
+among : (s : SceneInstance) (stands : List SceneInstance) (least : Vector) (p : Cell)
     → IsPlacedCell least stands p → IsPlacedCell least (s ∷ stands) p
 among s stands least p (t, (k, lt, is), c) = (t, (suc k, omega (arith, lt), is), c)
 
 abbrev at_number : List Content → ℕ → Cell → Cell → Bool
 at_number all i at p = is_in_stamp (slice_get all i) at p
 
-pub stamps_tell : (least : Vector) (all : List Content) (i : ℕ) (stands : List Stand)
+pub stamps_tell : (least : Vector) (all : List Content) (i : ℕ) (stands : List SceneInstance)
     (models : List Content) (places : List Cell) (before : World) (p : Cell)
-    → Numbered all i models → All IsSound stands → AreTurned stands models
+    → Numbered all i models → All IsSound stands → AreRotated stands models
     → AllZip (IsPlaced least) stands places
     → edited_by all (stamps_from i places) before p ≡ true
     → (before p ≡ true) ⊎ IsPlacedCell least stands p
@@ -159,9 +159,9 @@ stays_set all i (at ∷ places) before p set =
     stays_set all (i + 1) places (λ q. at_number all i at q || before q) p
     (right_true (at_number all i at p) (before p) set)
 
-pub stamps_hold : (least : Vector) (all : List Content) (i : ℕ) (stands : List Stand)
+pub stamps_hold : (least : Vector) (all : List Content) (i : ℕ) (stands : List SceneInstance)
     (models : List Content) (places : List Cell) (before : World) (p : Cell)
-    → Numbered all i models → AreTurned stands models → AllZip (IsPlaced least) stands places
+    → Numbered all i models → AreRotated stands models → AllZip (IsPlaced least) stands places
     → IsPlacedCell least stands p → edited_by all (stamps_from i places) before p ≡ true
 stamps_hold least all i [] models places before p are turned placed (t, (k, lt, is), c) =
     absurd (omega (arith, lt))
@@ -173,7 +173,7 @@ stamps_hold least all i (s ∷ stands) (m ∷ models) (at ∷ places) before p a
     (left_true (at_number all i at p) (before p)
     (ap (λ (o : Option Content). is_in_stamp o at p) (first_of all i m models are)
     ∙ stamp_holds least s m at p turned.0 placed.0
-    (subst (λ (u : Stand). IsCellOf least p u) (sym is) c)))
+    (subst (λ (u : SceneInstance). IsCellOf least p u) (sym is) c)))
 stamps_hold least all i (s ∷ stands) (m ∷ models) (at ∷ places) before p are turned placed
     (t, (suc k, lt, is), c) =
     stamps_hold least all (i + 1) stands models places (λ q. at_number all i at q || before q) p

@@ -6,13 +6,13 @@ use Rattle.transcript.specs.declared.answers.Answer.TheVariants as answers
 use Rattle.transcript.specs.declared.answers.LineAnswer.{LineAnswer}
 
 -- the number that an answer tells, where it is that of a count
-abbrev pub count_told : Answer → ℕ
-count_told (answers.Count cells) = cells
-count_told _ = 0
+abbrev pub count_in_answer : Answer → ℕ
+count_in_answer (answers.Count cells) = cells
+count_in_answer _ = 0
 
 abbrev pub line_count : Option LineAnswer → ℕ
 line_count None = 0
-line_count (Some line) = count_told line.answer
+line_count (Some line) = count_in_answer line.answer
 
 -- the number in a transcript's last line
 abbrev pub last_count : List LineAnswer → ℕ

@@ -12,9 +12,9 @@ use Rattle.history_model.specs.declared.acts.Act.TheVariants.{Stamp}
 use Rattle.history_model.specs.Worlds.{World, nothing, edited}
 use Rattle.script.specs.Scripts.{commands_of}
 use Rattle.text_laws.specs.loads.Commands.{edit_lines}
-use Rattle.vox_scene.specs.declared.turnings.Vector.{Vector}
-use Rattle.vox_scene.specs.Placing.{Stand, IsLeastCorner, turned_place}
-use Rattle.vox_scene.specs.Scenes.{SceneSeen, HasStands, HasScene}
+use Rattle.vox_scene.specs.declared.rotations.Vector.{Vector}
+use Rattle.vox_scene.specs.Placing.{SceneInstance, IsLeastCorner, rotated_cell}
+use Rattle.vox_scene.specs.Scenes.{SceneState, HasInstances, HasScene}
 use Rattle.vox_scene.specs.Written.{stamp_lines}
 
 -- the stamps of models at these places, the models numbered from this one on
@@ -41,23 +41,23 @@ abbrev pub edited_by : List Content → List Act → World → World
 edited_by models [] before = before
 edited_by models (act ∷ acts) before = edited_by models acts (edited models act before)
 
--- the cell is where a cell of the stand's model stands, turned and told from the scene's least
+-- the cell is where a cell of the instance's model stands, turned and told from the scene's least
 -- corner
-pub record IsCellOf (least : Vector) (p : Cell) (s : Stand) : Type 0 where
+pub record IsCellOf (least : Vector) (p : Cell) (s : SceneInstance) : Type 0 where
   pub from : Cell
   pub inside : IsBelow s.model.size from
   pub set : is_cell s.model.voxels from ≡ true
-  pub x : least.x +ℤ pos p.x ≡ s.corner.x +ℤ pos (turned_place s.turning s.model.size from).x
-  pub y : least.y +ℤ pos p.y ≡ s.corner.y +ℤ pos (turned_place s.turning s.model.size from).y
-  pub z : least.z +ℤ pos p.z ≡ s.corner.z +ℤ pos (turned_place s.turning s.model.size from).z
+  pub x : least.x +ℤ pos p.x ≡ s.corner.x +ℤ pos (rotated_cell s.axis_map s.model.size from).x
+  pub y : least.y +ℤ pos p.y ≡ s.corner.y +ℤ pos (rotated_cell s.axis_map s.model.size from).y
+  pub z : least.z +ℤ pos p.z ≡ s.corner.z +ℤ pos (rotated_cell s.axis_map s.model.size from).z
 
-abbrev pub IsPlacedCell : Vector → List Stand → Cell → Type 0
-IsPlacedCell least stands p = (s : Stand) × Contains stands s × IsCellOf least p s
+abbrev pub IsPlacedCell : Vector → List SceneInstance → Cell → Type 0
+IsPlacedCell least stands p = (s : SceneInstance) × Contains stands s × IsCellOf least p s
 
 -- the world's cells are those of the file's placed models, told from their least corner
 pub record ShowsScene (bytes : List ℕ) (world : World) : Type 0 where
-  pub stands : List Stand
-  pub has : HasStands bytes (Ok stands)
+  pub stands : List SceneInstance
+  pub has : HasInstances bytes (Ok stands)
   pub least : Vector
   pub is_least : IsLeastCorner stands least
   pub cells : (p : Cell) → (world p ≡ true) ↔ IsPlacedCell least stands p
@@ -74,6 +74,6 @@ pub record BuildsScene (bytes : List ℕ) (side : ℕ) (models script : List ℕ
 -- what is written of a scene builds it
 abbrev pub ScenesAreBuilt : Type 0
 ScenesAreBuilt =
-    (bytes : List ℕ) (scene : SceneSeen) → HasScene bytes scene → AreModels scene.models
+    (bytes : List ℕ) (scene : SceneState) → HasScene bytes scene → AreModels scene.models
     → 20 + chunks_length scene.models ≤ 2 ^ 28
     → BuildsScene bytes scene.side (models_file scene.models) (stamp_lines 0 scene.places)

@@ -1,5 +1,5 @@
 -- What a change and a question come to, case by case.
-use Rattle.std.proofs.Common.{◌≡◌, ◌≢◌, ℕ, ◌⊎◌, Bool, length, refl, sym, ◌∙◌, ap, subst, inl, inr}
+use Rattle.std.proofs.Common.{◌≡◌, ◌≢◌, ℕ, ◌⊎◌, Bool, Some, None, length, refl, sym, subst, inl, inr}
 use Rattle.history_model.specs.declared.acts.Act.{Act}
 use Rattle.history_model.specs.declared.acts.Act.TheVariants.{Fill, Erase, Ball, Carve, Copy, Stamp, Tint, Undo, Redo}
 use Rattle.history_model.specs.declared.histories.Record.{Record}
@@ -12,13 +12,14 @@ use Rattle.transcript.specs.declared.answers.Answer.{Answer}
 use Rattle.transcript.specs.declared.answers.Answer.TheVariants as answers
 use Rattle.conformance.specs.Answers.{mark_of}
 use Rattle.conformance.specs.Kinds.{answer_at}
-use Rattle.conformance.specs.Telling.{Tells, is, count, faces, extent, hit}
+use Rattle.conformance.specs.QuestionAnswers.{AnswersTo, is, count, faces, extent, hit}
 use Rattle.history_model.specs.Worlds as worlds
-use Rattle.conformance.specs.scripts.Sessions.{GoesOnWith}
+use Rattle.conformance.specs.scripts.Sessions.{ExtendsWith}
+use Rattle.retain.specs.Retained.{falls_out}
 use Rattle.store_run.specs.Answering.{nothing_to_go_to}
 use Rattle.store_run.specs.Changing.{Changes, AnswersForget, MakesVersion}
-use Rattle.voxdag_c.specs.declared.held.worlds.World.{World}
-use Rattle.voxdag_c.specs.held.Calls.{WorldChanges, WorldForgets, WorldAsks, Answered, CantBeAsked, IsActAnswered, CountsLine, record_of, held_side, call_status, is_in, cells_in, faces_answered, extent_in, hit_in}
+use Rattle.voxdag_c.specs.declared.held.worlds.CWorld.{CWorld}
+use Rattle.voxdag_c.specs.held.Calls.{WorldChanges, WorldForgets, KeepsLast, WorldAsks, Answered, CantBeAsked, IsActAnswered, CountsLine, record_of, held_side, call_status, is_in, cells_in, faces_answered, extent_in, hit_in}
 
 nothing_not_done : (act : Act) → nothing_to_go_to act ≡ answers.Done → ⊥
 nothing_not_done Undo e = cc
@@ -40,14 +41,15 @@ done_or_not old new r _ (Changes.log_full _ all way eq) = inr ((λ e. cc), eq)
 done_or_not old new r _ (Changes.forgotten _ to goes gone eq) = inr ((λ e. cc), eq)
 done_or_not old new r _ (Changes.nothing _ other none eq) = inr (nothing_not_done r.act, eq)
 
-module _ (w v : World) (act : Act) (answer : Answer) (status : ℕ)
+module _ (w v : CWorld) (act : Act) (answer : Answer)
     (fits : FitsWorld (held_side w) w.open.models act)
-    (eq : status ≡ call_status answer) (plan : v.open.plan ≡ w.open.plan)
-    (models : v.open.models ≡ w.open.models) (line : CountsLine answer w.line v.line)
+    (plan : v.open.plan ≡ w.open.plan)
+    (models : v.open.models ≡ w.open.models) (keep : v.keep ≡ w.keep)
+    (line : CountsLine answer w.line v.line)
     (logs : Changes w.open.log (record_of w act) answer v.open.log)
     (makes : answer ≡ answers.Done → MakesVersion w.open.models w.open.log act v.open.log)
     (goes_on : (once : Bool)
-    → GoesOnWith w.open.plan w.open.models 0
+    → ExtendsWith w.open.plan w.open.models 0
     (record { line = w.line; command = Edit act once }) w.open.log v.open.log w.open.noted v.open.noted
     (answer_at (record { line = w.line; command = Edit act once })
     (length v.open.log.records) answer)) where
@@ -55,69 +57,83 @@ module _ (w v : World) (act : Act) (answer : Answer) (status : ℕ)
   answered = record {
     logs = logs;
     goes_on = λ once.
-        record { plan = plan; models = models; line = line; goes_on = goes_on once };
+        record { plan = plan; models = models; keep = keep; line = line; goes_on = goes_on once };
   }
 
-  pub changes : WorldChanges w act status v
-  changes = go (done_or_not w.open.log v.open.log (record_of w act) answer logs)
+  pub refuses : (status : ℕ) → status ≡ call_status answer → answer ≢ answers.Done
+      → WorldChanges w act status v
+  refuses status eq other = go (done_or_not w.open.log v.open.log (record_of w act) answer logs)
     where
       go : (answer ≡ answers.Done) ⊎ ((answer ≢ answers.Done) × (v.open.log ≡ w.open.log))
           → WorldChanges w act status v
-      go (inl done) =
-          subst (λ (n : ℕ). WorldChanges w act n v) (sym (eq ∙ ap call_status done))
-          (WorldChanges.made v fits (subst (λ (a : Answer). IsActAnswered w act a v) done answered)
-          (makes done))
-      go (inr (other, stays)) =
+      go (inl done) = absurd (other done)
+      go (inr (isnt, stays)) =
           subst (λ (n : ℕ). WorldChanges w act n v) (sym eq)
-          (WorldChanges.refused v answer fits other answered stays)
+          (WorldChanges.refused v answer fits isnt answered stays)
 
-pub lacks_memory : (w v : World) (act : Act) → FitsWorld (held_side w) w.open.models act → v ≡ w
+  pub makes_and_keeps : (u : CWorld) → answer ≡ answers.Done → KeepsLast v u
+      → WorldChanges w act 0 u
+  makes_and_keeps u done keeps =
+      WorldChanges.made v u fits (subst (λ (a : Answer). IsActAnswered w act a v) done answered)
+      (makes done) keeps
+
+pub lacks_memory : (w v : CWorld) (act : Act) → FitsWorld (held_side w) w.open.models act → v ≡ w
     → WorldChanges w act 2 v
 lacks_memory w v act fits same =
-    subst (λ (u : World). WorldChanges w act 2 u) (sym same) (WorldChanges.memory fits)
+    subst (λ (u : CWorld). WorldChanges w act 2 u) (sym same) (WorldChanges.memory fits)
 
-pub forgets : (w v : World) (version : ℕ) (answer : Answer) (status : ℕ)
+pub forgets : (w v : CWorld) (version : ℕ) (answer : Answer) (status : ℕ)
     → status ≡ call_status answer → v.open.plan ≡ w.open.plan → v.open.models ≡ w.open.models
-    → CountsLine answer w.line v.line
+    → v.keep ≡ w.keep → CountsLine answer w.line v.line
     → AnswersForget w.open.log (mark_of version (length w.open.log.records) 0 w.line) answer
     v.open.log
-    → GoesOnWith w.open.plan w.open.models 0
+    → ExtendsWith w.open.plan w.open.models 0
     (record { line = w.line; command = Forget version }) w.open.log v.open.log w.open.noted v.open.noted
     (answer_at (record { line = w.line; command = Forget version })
     (length v.open.log.records) answer)
     → WorldForgets w version status v
-forgets w v version answer status eq plan models line logs goes_on =
+forgets w v version answer status eq plan models keep line logs goes_on =
     subst (λ (n : ℕ). WorldForgets w version n v) (sym eq)
     (WorldForgets.answered v answer logs
-    (record { plan = plan; models = models; line = line; goes_on = goes_on }))
+    (record { plan = plan; models = models; keep = keep; line = line; goes_on = goes_on }))
+
+-- ---- what falls out is forgotten
+
+pub keeps_all : (w : CWorld) → falls_out (length w.open.log.records) w.keep ≡ None → KeepsLast w w
+keeps_all w none = KeepsLast.all none
+
+pub keeps_last : (w v : CWorld) (version status : ℕ)
+    → falls_out (length w.open.log.records) w.keep ≡ Some version
+    → WorldForgets w version status v → KeepsLast w v
+keeps_last w v version status falls forgets = KeepsLast.last v version status falls forgets
 
 -- ---- the answers to questions have the form that these ask for
 
 module _ (side : ℕ) (world : worlds.World) (tints : Tints) where
-  pub tells_is : (c : _) (answer : Answer) → Tells side world tints (questions.Get c) answer
+  pub tells_is : (c : _) (answer : Answer) → AnswersTo side world tints (questions.Get c) answer
       → answer ≡ answers.Is (is_in answer)
   tells_is _ _ (is c set e) = refl
 
-  pub tells_count : (b : _) (answer : Answer) → Tells side world tints (questions.Count b) answer
+  pub tells_count : (b : _) (answer : Answer) → AnswersTo side world tints (questions.Count b) answer
       → answer ≡ answers.Count (cells_in answer)
   tells_count _ _ (count b cells e) = refl
 
-  pub tells_faces : (b : _) (answer : Answer) → Tells side world tints (questions.Faces b) answer
+  pub tells_faces : (b : _) (answer : Answer) → AnswersTo side world tints (questions.Faces b) answer
       → answer ≡ answers.Faces (faces_answered answer)
   tells_faces _ _ (faces b number e) = refl
 
-  pub tells_extent : (answer : Answer) → Tells side world tints questions.Bounds answer
+  pub tells_extent : (answer : Answer) → AnswersTo side world tints questions.Bounds answer
       → answer ≡ answers.Extent (extent_in answer)
   tells_extent _ (extent least e) = refl
 
   pub tells_hit : (from : _) (way : _) (answer : Answer)
-      → Tells side world tints (questions.Ray from way) answer
+      → AnswersTo side world tints (questions.Ray from way) answer
       → answer ≡ answers.Hit (hit_in answer)
   tells_hit _ _ _ (hit from way found e) = refl
 
 -- ---- what a question comes to
 
-module _ (w : World) (version : ℕ) (q question : Question) (Written : Answer → Type 0)
+module _ (w : CWorld) (version : ℕ) (q question : Question) (Written : Answer → Type 0)
     (Untouched : Type 0) (same : q ≡ question) where
   pub asked : (answer : Answer) → Answered w version q answer → Written answer
       → WorldAsks w version question Written Untouched 0

@@ -1,9 +1,10 @@
 -- What a call from C does: which status it ends with, what is held then, and what was written.
-use Rattle.std.specs.Prelude.{◌≡◌, ◌≢◌, ◌↔◌, ℕ, ◌+◌, ◌^◌, ◌<◌, ◌≤◌, Bool, true, false, IsTrue, List, [], ◌++◌, Option, Some, None, Ok, Err, length, drop, ⊤}
+use Rattle.std.specs.Prelude.{◌≡◌, ◌≢◌, ◌↔◌, ℕ, ◌+◌, ◌^◌, ◌<◌, ◌≤◌, Bool, true, false, IsTrue, List, [], ◌++◌, Option, Some, None, Ok, Err, length, drop, map, ⊤}
 use Rattle.std.specs.List.{slice_get}
 use Rattle.vw_cell.specs.declared.cells.Cell.{Cell}
 use Rattle.vw_cell.specs.declared.boxes.Boxed.{Boxed}
-use Rattle.vw_cell.specs.Places.{FitsAt, IsInWorld}
+use Rattle.vw_cell.specs.Places.{FitsAt, IsInBox, IsInWorld}
+use Rattle.vw_cell.specs.Extents.{IsExtent}
 use Rattle.vw_cell.specs.Sides.{is_side}
 use Rattle.vox_chunk.specs.declared.faults.VoxFault.{VoxFault}
 use Rattle.vox_chunk.specs.declared.faults.VoxFault.TheVariants.{Memory}
@@ -17,9 +18,13 @@ use Rattle.history_model.specs.declared.questions.Question.TheVariants.{Get, Col
 use Rattle.history_model.specs.Journal.{journal_of}
 use Rattle.history_model.specs.Logs.{Log, FitsWorld}
 use Rattle.history_model.specs.Moments.{world_has, world_tint}
-use Rattle.core_laws.specs.contents.Versions.{IsKept, SameWorld}
+use Rattle.core_laws.specs.contents.Versions.{HoldsVersion, SameWorld}
+use Rattle.measure.specs.Changes.{differs}
 use Rattle.extract.specs.Saved.{file_of_box}
+use Rattle.extract.specs.Surface.{surface_of_box}
+use Rattle.flood.specs.Regions.{FilesRegion}
 use Rattle.node_words.specs.Plans.{usual_buckets, is_cap}
+use Rattle.retain.specs.Retained.{falls_out}
 use Rattle.script.specs.Fitting.{QuestionFits}
 use Rattle.script.specs.declared.commands.Command.{Command}
 use Rattle.script.specs.declared.commands.Command.TheVariants.{Edit, Forget}
@@ -27,29 +32,30 @@ use Rattle.transcript.specs.declared.answers.Answer.{Answer}
 use Rattle.transcript.specs.declared.answers.Answer.TheVariants as answers
 use Rattle.conformance.specs.Answers.{mark_of}
 use Rattle.conformance.specs.Kinds.{answer_at}
-use Rattle.conformance.specs.Telling.{Tells}
-use Rattle.conformance.specs.scripts.Sessions.{GoesOnWith}
+use Rattle.conformance.specs.QuestionAnswers.{AnswersTo}
+use Rattle.conformance.specs.scripts.Sessions.{ExtendsWith}
 use Rattle.store_run.specs.Changing.{Changes, AnswersForget, MakesVersion}
 use Rattle.store_run.specs.Worlds.{size_of}
-use Rattle.voxdag_c.specs.declared.held.places.Place.{Place}
-use Rattle.voxdag_c.specs.declared.held.worlds.World.{World}
-use Rattle.voxdag_c.specs.held.Places.{cell_of_place}
+use Rattle.voxdag_c.specs.declared.held.places.CPlace.{CPlace}
+use Rattle.voxdag_c.specs.declared.held.shown.CShown.{CShown}
+use Rattle.voxdag_c.specs.declared.held.worlds.CWorld.{CWorld}
+use Rattle.voxdag_c.specs.held.Places.{cell_of_c_place, shown_of}
 
 -- the world's side in cells, which cells a version has, and their tints
-abbrev pub held_side : World → ℕ
+abbrev pub held_side : CWorld → ℕ
 held_side w = 2 ^ w.open.plan.side
 
-abbrev pub cells_told : World → ℕ → Cell → Bool
-cells_told w version = world_has w.open.models w.open.log.records version
+abbrev pub cells_of_version : CWorld → ℕ → Cell → Bool
+cells_of_version w version = world_has w.open.models w.open.log.records version
 
-abbrev pub tints_at : World → ℕ → Cell → ℕ
+abbrev pub tints_at : CWorld → ℕ → Cell → ℕ
 tints_at w version = world_tint w.open.models w.open.log.records version
 
 -- a call through a handle that may hold no world; where it holds none, no output is touched
-pub data ByHandle (Untouched : Type 0) (Does : World → ℕ → World → Type 0)
-    : Option World → ℕ → Option World → Type 0 where
+pub data ByHandle (Untouched : Type 0) (Does : CWorld → ℕ → CWorld → Type 0)
+    : Option CWorld → ℕ → Option CWorld → Type 0 where
   closed : Untouched → ByHandle Untouched Does None 1 None
-  does : (w v : World) (status : ℕ) → Does w status v
+  does : (w v : CWorld) (status : ℕ) → Does w status v
       → ByHandle Untouched Does (Some w) status (Some v)
 
 -- ---- changes
@@ -66,7 +72,7 @@ call_status answers.IsHead = 10
 call_status other = 0
 
 -- the record that an act becomes; all that C does is of session 0
-abbrev pub record_of : World → Act → Record
+abbrev pub record_of : CWorld → Act → Record
 record_of w act = record { session = 0; line = w.line; act = act }
 
 -- a change, or a forgotten version, was accepted
@@ -81,52 +87,63 @@ pub record CountsLine (answer : Answer) (old new : ℕ) : Type 0 where
   pub same : is_accepted answer ≡ false → new ≡ old
 
 -- plan and models stay, and the command goes on from whatever was done before, as a script's line
-pub record WorldGoesOn (w : World) (command : Command) (answer : Answer) (v : World) : Type 0 where
+pub record WorldExtends (w : CWorld) (command : Command) (answer : Answer)
+    (v : CWorld) : Type 0 where
   pub plan : v.open.plan ≡ w.open.plan
   pub models : v.open.models ≡ w.open.models
+  pub keep : v.keep ≡ w.keep
   pub line : CountsLine answer w.line v.line
-  pub goes_on : GoesOnWith w.open.plan w.open.models 0
+  pub goes_on : ExtendsWith w.open.plan w.open.models 0
       (record { line = w.line; command = command }) w.open.log v.open.log w.open.noted v.open.noted
       (answer_at (record { line = w.line; command = command }) (length v.open.log.records) answer)
 
 -- the act is answered
-pub record IsActAnswered (w : World) (act : Act) (answer : Answer) (v : World) : Type 0 where
+pub record IsActAnswered (w : CWorld) (act : Act) (answer : Answer) (v : CWorld) : Type 0 where
   pub logs : Changes w.open.log (record_of w act) answer v.open.log
-  pub goes_on : (once : Bool) → WorldGoesOn w (Edit act once) answer v
+  pub goes_on : (once : Bool) → WorldExtends w (Edit act once) answer v
 
 -- the model that is stamped is there
 abbrev pub HasItsModel : List Content → Act → Type 0
 HasItsModel models (Stamp number at) = slice_get models number ≢ None
 HasItsModel models other = ⊤
 
+-- a version is forgotten, or not
+pub data WorldForgets (w : CWorld) (version : ℕ) : ℕ → CWorld → Type 0 where
+  answered : (v : CWorld) (answer : Answer)
+      → AnswersForget w.open.log (mark_of version (length w.open.log.records) 0 w.line) answer
+      v.open.log
+      → WorldExtends w (Forget version) answer v → WorldForgets w version (call_status answer) v
+
+-- the version that fell out of the last ones that are kept, as the newest one came, is forgotten;
+-- where all are kept, none fell out
+pub data KeepsLast (w : CWorld) : CWorld → Type 0 where
+  all : falls_out (length w.open.log.records) w.keep ≡ None → KeepsLast w w
+  last : (v : CWorld) (version status : ℕ)
+      → falls_out (length w.open.log.records) w.keep ≡ Some version
+      → WorldForgets w version status v → KeepsLast w v
+
 -- a change of the world: its model isn't there, it leaves the world, or memory lacks, and nothing
--- changed; or it was made; or the answer says why not, and the history is what it was. Memory may
--- lack at any change: nothing here says that it doesn't
-pub data WorldChanges (w : World) (act : Act) : ℕ → World → Type 0 where
+-- changed; or it was made, and what fell out then was forgotten; or the answer says why not, and the
+-- history is what it was. Memory may lack at any change: nothing here says that it doesn't
+pub data WorldChanges (w : CWorld) (act : Act) : ℕ → CWorld → Type 0 where
   no_model : ¬ HasItsModel w.open.models act → WorldChanges w act 14 w
   outside : HasItsModel w.open.models act → ¬ FitsWorld (held_side w) w.open.models act
       → WorldChanges w act 3 w
   memory : FitsWorld (held_side w) w.open.models act → WorldChanges w act 2 w
-  made : (v : World) → FitsWorld (held_side w) w.open.models act
+  made : (v u : CWorld) → FitsWorld (held_side w) w.open.models act
       → IsActAnswered w act answers.Done v
-      → MakesVersion w.open.models w.open.log act v.open.log → WorldChanges w act 0 v
-  refused : (v : World) (answer : Answer) → FitsWorld (held_side w) w.open.models act
+      → MakesVersion w.open.models w.open.log act v.open.log → KeepsLast v u
+      → WorldChanges w act 0 u
+  refused : (v : CWorld) (answer : Answer) → FitsWorld (held_side w) w.open.models act
       → answer ≢ answers.Done → IsActAnswered w act answer v → v.open.log ≡ w.open.log
       → WorldChanges w act (call_status answer) v
-
--- a version is forgotten, or not
-pub data WorldForgets (w : World) (version : ℕ) : ℕ → World → Type 0 where
-  answered : (v : World) (answer : Answer)
-      → AnswersForget w.open.log (mark_of version (length w.open.log.records) 0 w.line) answer
-      v.open.log
-      → WorldGoesOn w (Forget version) answer v → WorldForgets w version (call_status answer) v
 
 -- ---- questions
 
 -- why a version can't be read
 pub data IsGone (log : Log) (version : ℕ) : ℕ → Type 0 where
   no_version : length log.records < version → IsGone log version 4
-  forgotten : version ≤ length log.records → ¬ IsKept log version → IsGone log version 5
+  forgotten : version ≤ length log.records → ¬ HoldsVersion log version → IsGone log version 5
 
 -- the place or the box that is asked about lies in the world
 abbrev pub QuestionLiesIn : ℕ → Question → Type 0
@@ -138,19 +155,21 @@ QuestionLiesIn side (Faces b) = FitsAt b.at b.size side
 QuestionLiesIn side (Ray from way) = IsInWorld side from
 
 -- the answer tells what is asked of the version, which can be read
-pub record Answered (w : World) (version : ℕ) (question : Question) (answer : Answer) : Type 0 where
-  pub kept : IsKept w.open.log version
+pub record Answered (w : CWorld) (version : ℕ) (question : Question)
+    (answer : Answer) : Type 0 where
+  pub kept : HoldsVersion w.open.log version
   pub fits : QuestionFits (held_side w) question
-  pub tells : Tells (held_side w) (cells_told w version) (tints_at w version) question answer
+  pub tells : AnswersTo (held_side w) (cells_of_version w version)
+      (tints_at w version) question answer
 
 -- nothing is wrong with what is asked, and the version can't be read
-pub record CantBeAsked (w : World) (version : ℕ) (question : Question) (status : ℕ)
+pub record CantBeAsked (w : CWorld) (version : ℕ) (question : Question) (status : ℕ)
     : Type 0 where
   pub fits : QuestionFits (held_side w) question
   pub gone : IsGone w.open.log version status
 
 -- a question of a version: the answer that tells what is asked was written, or nothing was
-pub data WorldAsks (w : World) (version : ℕ) (question : Question) (Written : Answer → Type 0)
+pub data WorldAsks (w : CWorld) (version : ℕ) (question : Question) (Written : Answer → Type 0)
     (Untouched : Type 0) : ℕ → Type 0 where
   told : (answer : Answer) → Answered w version question answer → Written answer
       → WorldAsks w version question Written Untouched 0
@@ -183,55 +202,58 @@ hit_in (answers.Hit hit) = hit
 hit_in other = None
 
 -- whether two versions have the same cells
-pub data WorldCompares (w : World) (a b : ℕ) (old new : Bool) : ℕ → Type 0 where
-  told : IsKept w.open.log a → IsKept w.open.log b
-      → (IsTrue new ↔ SameWorld (held_side w) (cells_told w a) (cells_told w b))
+pub data WorldCompares (w : CWorld) (a b : ℕ) (old new : Bool) : ℕ → Type 0 where
+  told : HoldsVersion w.open.log a → HoldsVersion w.open.log b
+      → (IsTrue new ↔ SameWorld (held_side w) (cells_of_version w a) (cells_of_version w b))
       → WorldCompares w a b old new 0
   first : (status : ℕ) → IsGone w.open.log a status → new ≡ old
       → WorldCompares w a b old new status
-  second : (status : ℕ) → IsKept w.open.log a → IsGone w.open.log b status → new ≡ old
+  second : (status : ℕ) → HoldsVersion w.open.log a → IsGone w.open.log b status → new ≡ old
       → WorldCompares w a b old new status
 
 -- the number of the newest version
-pub data TellsNewest (w : World) : ℕ → ℕ → Type 0 where
-  told : TellsNewest w 0 (length w.open.log.records)
+pub data PutsNewest (w : CWorld) : ℕ → ℕ → Type 0 where
+  told : PutsNewest w 0 (length w.open.log.records)
 
 -- the size of the model of this number
-pub data TellsSize (w : World) (number : ℕ) (old new : Place) : ℕ → Type 0 where
-  told : size_of (slice_get w.open.models number) ≡ Some (cell_of_place new)
-      → TellsSize w number old new 0
-  no_model : slice_get w.open.models number ≡ None → new ≡ old → TellsSize w number old new 14
+pub data PutsSize (w : CWorld) (number : ℕ) (old new : CPlace) : ℕ → Type 0 where
+  told : size_of (slice_get w.open.models number) ≡ Some (cell_of_c_place new)
+      → PutsSize w number old new 0
+  no_model : slice_get w.open.models number ≡ None → new ≡ old → PutsSize w number old new 14
 
 -- ---- bytes that are written
 
--- the bytes stand at the front, where there is room for them, and else nothing was written
-pub data PutsBytes (bytes old new : List ℕ) : ℕ → Type 0 where
-  put : length bytes ≤ length old → new ≡ bytes ++ drop (length bytes) old
-      → PutsBytes bytes old new 0
-  too_small : length old < length bytes → new ≡ old → PutsBytes bytes old new 11
+-- the items stand at the front, where there is room for them, and else nothing was written
+pub data PutsItems {X : Type 0} (items old new : List X) : ℕ → Type 0 where
+  put : length items ≤ length old → new ≡ items ++ drop (length items) old
+      → PutsItems items old new 0
+  too_small : length old < length items → new ≡ old → PutsItems items old new 11
 
--- the same, and how many bytes there are
-pub record WritesBytes (bytes old new : List ℕ) (needed status : ℕ) : Type 0 where
-  pub puts : PutsBytes bytes old new status
-  pub number : needed ≡ length bytes
+-- the same, and how many items there are
+pub record WritesItems {X : Type 0} (items old new : List X) (needed status : ℕ) : Type 0 where
+  pub puts : PutsItems items old new status
+  pub number : needed ≡ length items
+
+abbrev pub WritesBytes : List ℕ → List ℕ → List ℕ → ℕ → ℕ → Type 0
+WritesBytes bytes old new needed status = WritesItems bytes old new needed status
 
 -- nothing was written
-pub record WritesNothing (old new : List ℕ) (before needed : ℕ) : Type 0 where
+pub record WritesNothing {X : Type 0} (old new : List X) (before needed : ℕ) : Type 0 where
   pub bytes : new ≡ old
   pub number : needed ≡ before
 
--- a file can have the box
+-- a file, or a list of cells that can be seen, can have the box
 pub record FitsFile (side : ℕ) (part : Boxed) : Type 0 where
   pub inside : FitsAt part.at part.size side
   pub small : (part.size.x ≤ 256) × (part.size.y ≤ 256) × (part.size.z ≤ 256)
 
 -- the VOX file of a box of a version
-pub data WorldSaves (w : World) (version : ℕ) (part : Boxed) (old new : List ℕ)
+pub data WorldSaves (w : CWorld) (version : ℕ) (part : Boxed) (old new : List ℕ)
     (before needed : ℕ) : ℕ → Type 0 where
-  made : (status : ℕ) → IsKept w.open.log version → FitsFile (held_side w) part
-      → WritesBytes (file_of_box part (cells_told w version)) old new needed status
+  made : (status : ℕ) → HoldsVersion w.open.log version → FitsFile (held_side w) part
+      → WritesBytes (file_of_box part (cells_of_version w version)) old new needed status
       → WorldSaves w version part old new before needed status
-  memory : IsKept w.open.log version → FitsFile (held_side w) part
+  memory : HoldsVersion w.open.log version → FitsFile (held_side w) part
       → WritesNothing old new before needed → WorldSaves w version part old new before needed 2
   outside : ¬ FitsFile (held_side w) part → WritesNothing old new before needed
       → WorldSaves w version part old new before needed 3
@@ -239,10 +261,65 @@ pub data WorldSaves (w : World) (version : ℕ) (part : Boxed) (old new : List �
       → WritesNothing old new before needed → WorldSaves w version part old new before needed status
 
 -- the text of the journal
-pub data WorldJournals (w : World) (old new : List ℕ) (before needed : ℕ) : ℕ → Type 0 where
+pub data WorldJournals (w : CWorld) (old new : List ℕ) (before needed : ℕ) : ℕ → Type 0 where
   made : (status : ℕ) → WritesBytes (journal_of w.open.log) old new needed status
       → WorldJournals w old new before needed status
   memory : WritesNothing old new before needed → WorldJournals w old new before needed 2
+
+-- ---- two versions beside each other, and what can be seen of one
+
+-- the least box of all cells that one of two versions has and the other hasn't, where there are any
+pub data WorldDiffers (w : CWorld) (a b : ℕ) (Written : Option Boxed → Type 0)
+    (Untouched : Type 0) : ℕ → Type 0 where
+  told : (least : Option Boxed) → HoldsVersion w.open.log a → HoldsVersion w.open.log b
+      → IsExtent (held_side w) (differs (cells_of_version w a) (cells_of_version w b)) least
+      → Written least → WorldDiffers w a b Written Untouched 0
+  first : (status : ℕ) → IsGone w.open.log a status → Untouched
+      → WorldDiffers w a b Written Untouched status
+  second : (status : ℕ) → HoldsVersion w.open.log a → IsGone w.open.log b status → Untouched
+      → WorldDiffers w a b Written Untouched status
+
+-- the set cells of a box of a version at whose side an unset cell or the world's outside is, in
+-- saving order
+abbrev pub surface_of_version : CWorld → ℕ → Boxed → List CShown
+surface_of_version w version part =
+    map shown_of (surface_of_box (held_side w) (cells_of_version w version) part)
+
+-- these cells are written
+pub data WorldShows (w : CWorld) (version : ℕ) (part : Boxed) (old new : List CShown)
+    (before needed : ℕ) : ℕ → Type 0 where
+  made : (status : ℕ) → HoldsVersion w.open.log version → FitsFile (held_side w) part
+      → WritesItems (surface_of_version w version part) old new needed status
+      → WorldShows w version part old new before needed status
+  memory : HoldsVersion w.open.log version → FitsFile (held_side w) part
+      → WritesNothing old new before needed → WorldShows w version part old new before needed 2
+  outside : ¬ FitsFile (held_side w) part → WritesNothing old new before needed
+      → WorldShows w version part old new before needed 3
+  gone : (status : ℕ) → FitsFile (held_side w) part → IsGone w.open.log version status
+      → WritesNothing old new before needed → WorldShows w version part old new before needed status
+
+-- a region is asked for of this box, and from this cell of it
+pub record FitsRegion (side : ℕ) (part : Boxed) (from : Cell) : Type 0 where
+  pub part_fits : FitsFile side part
+  pub start : IsInBox part from
+
+-- the cells of a box of a version that ways through its clear cells join with a cell of it: how many
+-- they are, and their VOX file
+pub data WorldFloods (w : CWorld) (version : ℕ) (part : Boxed) (from : Cell) (was cells : ℕ)
+    (old new : List ℕ) (before needed : ℕ) : ℕ → Type 0 where
+  made : (status : ℕ) (file : List ℕ) → HoldsVersion w.open.log version
+      → FitsRegion (held_side w) part from
+      → FilesRegion part from cells file (cells_of_version w version)
+      → WritesBytes file old new needed status
+      → WorldFloods w version part from was cells old new before needed status
+  memory : HoldsVersion w.open.log version → FitsRegion (held_side w) part from → cells ≡ was
+      → WritesNothing old new before needed
+      → WorldFloods w version part from was cells old new before needed 2
+  outside : ¬ FitsRegion (held_side w) part from → cells ≡ was → WritesNothing old new before needed
+      → WorldFloods w version part from was cells old new before needed 3
+  gone : (status : ℕ) → FitsRegion (held_side w) part from → IsGone w.open.log version status
+      → cells ≡ was → WritesNothing old new before needed
+      → WorldFloods w version part from was cells old new before needed status
 
 -- ---- opening
 
@@ -256,8 +333,9 @@ pub record AreSlots (asked slots : ℕ) : Type 0 where
   pub usual : asked ≡ 0 → slots ≡ 128
   pub given : asked ≢ 0 → slots ≡ asked
 
--- a world of this side and cap, with the models of these bytes, where nothing was done
-pub record IsBegun (side cap : ℕ) (bytes : List ℕ) (w : World) : Type 0 where
+-- a world of this side and cap, which keeps so many versions, with the models of these bytes, where
+-- nothing was done
+pub record IsBegun (side cap keep : ℕ) (bytes : List ℕ) (w : CWorld) : Type 0 where
   pub cells : held_side w ≡ side
   pub buckets : w.open.plan.buckets ≡ usual_buckets
   pub slots : AreSlots cap w.open.plan.cap
@@ -265,6 +343,7 @@ pub record IsBegun (side cap : ℕ) (bytes : List ℕ) (w : World) : Type 0 wher
   pub nothing : w.open.log
       ≡ record { side = w.open.plan.side; coloured = false; records = []; marks = [] }
   pub noted : w.open.noted ≡ record { made = []; met = [] }
+  pub keep_is : w.keep ≡ keep
   pub line : w.line ≡ 1
 
 -- a world can have this side, and its buckets so many slots
@@ -272,12 +351,18 @@ pub record AreSideAndCap (side cap : ℕ) : Type 0 where
   pub is_a_side : IsTrue (is_side side)
   pub is_a_cap : cap ≢ 0 → IsTrue (is_cap cap)
 
+-- why the models that are asked for by the bytes of a file aren't there
+pub data RefusesModels (bytes : List ℕ) : ℕ → Type 0 where
+  too_long : 2 ^ 28 < length bytes → RefusesModels bytes 15
+  bad_file : 0 < length bytes → (fault : VoxFault) → ReadsModels bytes (Err fault)
+      → RefusesModels bytes 15
+  memory : RefusesModels bytes 2
+
 -- why no world is opened
 pub data Refuses (side cap : ℕ) (bytes : List ℕ) : ℕ → Type 0 where
   bad_plan : ¬ AreSideAndCap side cap → Refuses side cap bytes 12
-  too_long : AreSideAndCap side cap → 2 ^ 28 < length bytes → Refuses side cap bytes 15
-  bad_file : AreSideAndCap side cap → 0 < length bytes → (fault : VoxFault)
-      → ReadsModels bytes (Err fault) → Refuses side cap bytes 15
+  no_models : (status : ℕ) → AreSideAndCap side cap → RefusesModels bytes status
+      → Refuses side cap bytes status
   memory : AreSideAndCap side cap → Refuses side cap bytes 2
 
 -- the number that C gets for a file's fault
@@ -286,14 +371,15 @@ status_of_file Memory = 2
 status_of_file other = 15
 
 -- a world is opened in a handle that has none
-pub data OpensHandle (side cap : ℕ) (bytes : List ℕ) : Option World → ℕ → Option World
+pub data OpensHandle (side cap keep : ℕ) (bytes : List ℕ) : Option CWorld → ℕ → Option CWorld
     → Type 0 where
-  is_open : (w : World) → OpensHandle side cap bytes (Some w) 13 (Some w)
+  is_open : (w : CWorld) → OpensHandle side cap keep bytes (Some w) 13 (Some w)
   refused : (status : ℕ) → Refuses side cap bytes status
-      → OpensHandle side cap bytes None status None
-  begun : (w : World) → IsBegun side cap bytes w → OpensHandle side cap bytes None 0 (Some w)
+      → OpensHandle side cap keep bytes None status None
+  begun : (w : CWorld) → IsBegun side cap keep bytes w
+      → OpensHandle side cap keep bytes None 0 (Some w)
 
 -- a world is closed, where one is held
-pub data ClosesHandle : Option World → ℕ → Option World → Type 0 where
+pub data ClosesHandle : Option CWorld → ℕ → Option CWorld → Type 0 where
   closed : ClosesHandle None 1 None
-  given_back : (w : World) → ClosesHandle (Some w) 0 None
+  given_back : (w : CWorld) → ClosesHandle (Some w) 0 None

@@ -6,13 +6,13 @@ use Rattle.std.specs.Box.Ownership.{box_owns}
 use Rattle.std.specs.Global.{Global}
 use Rattle.std.specs.Coded.{Coded, coded_option}
 use Rattle.std_heap.specs.contracts.GlobalAllocator.TheImpl.{ghosts}
-use Rattle.voxdag_c.specs.contracts.held.worlds.World.{the_row}
+use Rattle.voxdag_c.specs.contracts.held.worlds.CWorld.{the_row}
 
 -- what a box of the world owns where there is a world, and else nothing
-abbrev pub kept_owns : Global → Ptr → Option the_row.Denot → Fml
-kept_owns alloc p None = ftrue
-kept_owns alloc p (Some x) = box_owns (ghosts.dealloc_token alloc) the_row p x
+abbrev pub ptr_owns : Global → Ptr → Option the_row.Denot → Fml
+ptr_owns alloc p None = ftrue
+ptr_owns alloc p (Some x) = box_owns (ghosts.dealloc_token alloc) the_row p x
 
 -- how the proofs tell such values apart
-abbrev pub kept_coded : Coded (Option the_row.Denot)
-kept_coded = coded_option the_row.coded
+abbrev pub ptr_coded : Coded (Option the_row.Denot)
+ptr_coded = coded_option the_row.coded

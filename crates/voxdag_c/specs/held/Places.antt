@@ -3,17 +3,19 @@ use Rattle.std.specs.Prelude.{ℕ, ◌≤◌, Bool, true, false, Option, Some, N
 use Rattle.vw_cell.specs.declared.cells.Cell.{Cell}
 use Rattle.vw_cell.specs.declared.boxes.Boxed.{Boxed}
 use Rattle.vw_cell.specs.declared.balls.Ball.{Ball}
-use Rattle.voxdag_c.specs.declared.held.places.Place.{Place}
-use Rattle.voxdag_c.specs.declared.held.places.Stretch.{Stretch}
+use Rattle.vox_read.specs.declared.voxels.Voxel.{Voxel}
+use Rattle.voxdag_c.specs.declared.held.places.CPlace.{CPlace}
+use Rattle.voxdag_c.specs.declared.held.places.CBox.{CBox}
+use Rattle.voxdag_c.specs.declared.held.shown.CShown.{CShown}
 
-abbrev pub cell_of_place : Place → Cell
-cell_of_place p = record { x = p.x; y = p.y; z = p.z }
+abbrev pub cell_of_c_place : CPlace → Cell
+cell_of_c_place p = record { x = p.x; y = p.y; z = p.z }
 
-abbrev pub box_of : Stretch → Boxed
-box_of s = record { at = cell_of_place s.at; size = cell_of_place s.size }
+abbrev pub box_of : CBox → Boxed
+box_of s = record { at = cell_of_c_place s.at; size = cell_of_c_place s.size }
 
-abbrev pub ball_of : Place → ℕ → Ball
-ball_of centre radius = record { centre = cell_of_place centre; radius = radius }
+abbrev pub ball_of : CPlace → ℕ → Ball
+ball_of centre radius = record { centre = cell_of_c_place centre; radius = radius }
 
 -- 16 bits are enough for each of the numbers
 pub record FitsSixteenBits (c : Cell) : Type 0 where
@@ -22,10 +24,15 @@ pub record FitsSixteenBits (c : Cell) : Type 0 where
   pub z : c.z ≤ 65535
 
 -- a box, or a place, where there is one
-abbrev pub extent_of : Bool → Stretch → Option Boxed
+abbrev pub extent_of : Bool → CBox → Option Boxed
 extent_of false s = None
 extent_of true s = Some (box_of s)
 
-abbrev pub hit_of : Bool → Place → Option Cell
+abbrev pub hit_of : Bool → CPlace → Option Cell
 hit_of false p = None
-hit_of true p = Some (cell_of_place p)
+hit_of true p = Some (cell_of_c_place p)
+
+-- a cell that can be seen, of a world whose cells have no tints: a voxel has its bare sides in the
+-- place of its colour
+abbrev pub shown_of : Voxel → CShown
+shown_of v = record { x = v.x; y = v.y; z = v.z; tint = 1; sides = v.colour }

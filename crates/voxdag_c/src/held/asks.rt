@@ -4,22 +4,22 @@ ghost use Rattle.history_model.specs.Ways.{heading_of};
 ghost use Rattle.history_model.specs.declared.questions.Question.TheVariants as questions;
 ghost use Rattle.script.specs.Fitting.{QuestionFits};
 ghost use Rattle.transcript.specs.declared.answers.Answer.TheVariants as answers;
-ghost use Rattle.voxdag_c.specs.held.Places.{cell_of_place, box_of, extent_of, hit_of};
+ghost use Rattle.voxdag_c.specs.held.Places.{cell_of_c_place, box_of, extent_of, hit_of};
 ghost use Rattle.voxdag_c.specs.held.Calls.{WorldAsks, WorldCompares, WorldSaves, WorldJournals, Answered, CantBeAsked, is_in, cells_in, faces_answered, extent_in, hit_in};
 
 use crate::held::outputs::put_bytes;
-use crate::held::places::{Place, Stretch};
+use crate::held::places::{CBox, CPlace};
 use crate::held::statuses as status;
-use crate::held::worlds::World;
+use crate::held::worlds::CWorld;
 use history_model::{Question, Way};
 use std::alloc::Global;
 use transcript::Answer;
 use vw_cell::{Boxed, Cell};
 
-impl World {
+impl CWorld {
     /// Whether a cell of a version is set.
-    pub fn get(&mut self, version: u32, place: Place, set: &mut bool) -> u32
-        ensures asks { WorldAsks self.old version (questions.Get (cell_of_place place))
+    pub fn get(&mut self, version: u32, place: CPlace, set: &mut bool) -> u32
+        ensures asks { WorldAsks self.old version (questions.Get (cell_of_c_place place))
             (λ a. a ≡ answers.Is set.new) (set.new ≡ set.old) result }
         ensures same { self.new ≡ self.old }
     {
@@ -36,7 +36,7 @@ impl World {
     }
 
     /// How many cells of a box of a version are set.
-    pub fn count(&mut self, version: u32, part: Stretch, cells: &mut u64) -> u32
+    pub fn count(&mut self, version: u32, part: CBox, cells: &mut u64) -> u32
         ensures asks { WorldAsks self.old version (questions.Count (box_of part))
             (λ a. a ≡ answers.Count cells.new) (cells.new ≡ cells.old) result }
         ensures same { self.new ≡ self.old }
@@ -54,7 +54,7 @@ impl World {
     }
 
     /// How many pairs there are of a set cell of the box and a neighbour that isn't set.
-    pub fn faces(&mut self, version: u32, part: Stretch, faces: &mut u64) -> u32
+    pub fn faces(&mut self, version: u32, part: CBox, faces: &mut u64) -> u32
         ensures asks { WorldAsks self.old version (questions.Faces (box_of part))
             (λ a. a ≡ answers.Faces faces.new) (faces.new ≡ faces.old) result }
         ensures same { self.new ≡ self.old }
@@ -72,7 +72,7 @@ impl World {
     }
 
     /// The least box that has all set cells of a version, where some are set.
-    pub fn bounds(&mut self, version: u32, some: &mut bool, least: &mut Stretch) -> u32
+    pub fn bounds(&mut self, version: u32, some: &mut bool, least: &mut CBox) -> u32
         ensures asks { WorldAsks self.old version questions.Bounds
             (λ a. (a ≡ answers.Extent (extent_of some.new least.new))
             × (some.new ≡ false → least.new ≡ least.old))
@@ -93,15 +93,15 @@ impl World {
     pub fn ray(
         &mut self,
         version: u32,
-        from: Place,
+        from: CPlace,
         dx: i16,
         dy: i16,
         dz: i16,
         some: &mut bool,
-        hit: &mut Place,
+        hit: &mut CPlace,
     ) -> u32
         ensures asks { WorldAsks self.old version
-            (questions.Ray (cell_of_place from) (heading_of dx dy dz))
+            (questions.Ray (cell_of_c_place from) (heading_of dx dy dz))
             (λ a. (a ≡ answers.Hit (hit_of some.new hit.new))
             × (some.new ≡ false → hit.new ≡ hit.old))
             ((some.new ≡ some.old) × (hit.new ≡ hit.old)) result }
@@ -128,10 +128,10 @@ impl World {
     pub fn same(&self, a: u32, b: u32, same: &mut bool) -> u32
         ensures { WorldCompares self.now a b same.old same.new result }
     {
-        if !self.open.is_kept(a) {
+        if !self.open.holds_version(a) {
             return self.why_gone(a);
         }
-        if !self.open.is_kept(b) {
+        if !self.open.holds_version(b) {
             return self.why_gone(b);
         }
         *same = self.open.same(a, b);
@@ -144,7 +144,7 @@ impl World {
         &mut self,
         alloc: Global,
         version: u32,
-        part: Stretch,
+        part: CBox,
         out: &mut [u8],
         needed: &mut usize,
     ) -> u32
@@ -160,7 +160,7 @@ impl World {
         if !is_small(b) {
             return status::OUTSIDE;
         }
-        if !self.open.is_kept(version) {
+        if !self.open.holds_version(version) {
             return self.why_gone(version);
         }
         match self.open.file(alloc, version, b) {
@@ -187,7 +187,7 @@ impl World {
         ensures gone { IfErr result (λ status. CantBeAsked self.old version question status) }
         ensures same { self.new ≡ self.old }
     {
-        if !self.open.is_kept(version) {
+        if !self.open.holds_version(version) {
             return Err(self.why_gone(version));
         }
         Ok(self.open.ask(version, question))
@@ -195,33 +195,33 @@ impl World {
 }
 
 // Whether a file can have a box of this size.
-fn is_small(b: Boxed) -> bool
+pub(crate) fn is_small(b: Boxed) -> bool
     ensures { IsTrue result ↔ (b.size.x ≤ 256) × (b.size.y ≤ 256) × (b.size.z ≤ 256) }
 {
     b.size.x <= 256 && b.size.y <= 256 && b.size.z <= 256
 }
 
-fn put_extent(found: Option<Boxed>, some: &mut bool, least: &mut Stretch)
+pub(crate) fn put_extent(found: Option<Boxed>, some: &mut bool, least: &mut CBox)
     ensures found { extent_of some.new least.new ≡ found }
     ensures none { some.new ≡ false → least.new ≡ least.old }
 {
     match found {
         Some(b) => {
             *some = true;
-            *least = Stretch::of(b);
+            *least = CBox::of(b);
         }
         None => *some = false,
     }
 }
 
-fn put_hit(found: Option<Cell>, some: &mut bool, hit: &mut Place)
+fn put_hit(found: Option<Cell>, some: &mut bool, hit: &mut CPlace)
     ensures found { hit_of some.new hit.new ≡ found }
     ensures none { some.new ≡ false → hit.new ≡ hit.old }
 {
     match found {
         Some(c) => {
             *some = true;
-            *hit = Place::of(c);
+            *hit = CPlace::of(c);
         }
         None => *some = false,
     }

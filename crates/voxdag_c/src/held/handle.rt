@@ -1,8 +1,8 @@
 ghost use Rattle.std.specs.Prelude.{◌≡◌, None, Some};
 ghost use Rattle.voxdag_c.specs.held.Holding.{is_there, IsHeldBy};
 
-use crate::held::kept::Kept;
-use crate::held::worlds::World;
+use crate::held::kept::WorldPtr;
+use crate::held::worlds::CWorld;
 use std::alloc::Global;
 use std::mem::replace;
 
@@ -10,19 +10,19 @@ use std::mem::replace;
 #[repr(C)]
 pub struct Handle {
     is_open: bool,
-    pub kept: Kept,
+    pub kept: WorldPtr,
     pub ghost says: { is_open ≡ is_there kept.value },
 }
 
 impl Handle {
     /// The world, which the handle has no longer.
-    pub fn take(&mut self, alloc: Global) -> Option<Box<World, Global>>
+    pub fn take(&mut self, alloc: Global) -> Option<Box<CWorld, Global>>
         ensures gone { self.new.kept.value ≡ None }
         ensures taken { IsHeldBy self.old.kept.value result }
     {
         let closed = Handle {
             is_open: false,
-            kept: Kept::none(alloc),
+            kept: WorldPtr::none(alloc),
         };
         let Handle { is_open, kept } = replace(self, closed);
         if is_open {
@@ -34,13 +34,13 @@ impl Handle {
     }
 
     /// The world comes to a handle that has none.
-    pub fn put(&mut self, world: Box<World, Global>)
+    pub fn put(&mut self, world: Box<CWorld, Global>)
         requires { self.old.kept.value ≡ None }
         ensures { self.new.kept.value ≡ Some world.value }
     {
         let open = Handle {
             is_open: true,
-            kept: Kept::of(world),
+            kept: WorldPtr::of(world),
         };
         let Handle { is_open: _, kept } = replace(self, open);
         kept.let_go();

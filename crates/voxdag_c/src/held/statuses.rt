@@ -34,3 +34,9 @@ pub const NO_MODEL: u32 = 14;
 pub const BAD_FILE: u32 = 15;
 /// A step of a ray isn't from -1,024 to 1,024, or all of them are 0.
 pub const BAD_WAY: u32 = 16;
+/// The bytes are no journal: its first line that doesn't fit was told.
+pub const BAD_JOURNAL: u32 = 18;
+/// A record of the journal breaks a rule of a legal history: its line was told.
+pub const NOT_LEGAL: u32 = 19;
+/// A call for a world with tints where cells have none, or the reverse.
+pub const OTHER_KIND: u32 = 20;

@@ -1,17 +1,20 @@
-ghost use Rattle.std.specs.Prelude.{◌≡◌, ◌↔◌, ◌^◌, ℕ, [], None, IfOk, IfErr, IfSome, IsSome, true, false};
+ghost use Rattle.std.specs.Prelude.{◌≡◌, ◌↔◌, ◌^◌, [], None, IfOk, IfErr, IfSome, IsSome, IsTrue, true, false};
 ghost use Rattle.node_words.specs.Plans.{usual_buckets};
 ghost use Rattle.vox_read.specs.Contents.{AreModels};
 ghost use Rattle.history_model.specs.Logs.{FitsWorld, suits_tints};
 ghost use Rattle.history_model.specs.declared.acts.Act.TheVariants.{Fill, Erase, Carve, Copy, Stamp, Undo, Redo};
 ghost use Rattle.history_model.specs.declared.acts.Act.TheVariants as acts;
-ghost use Rattle.core_laws.specs.contents.Versions.{IsKept};
-ghost use Rattle.voxdag_c.specs.held.Places.{cell_of_place, box_of, ball_of};
-ghost use Rattle.voxdag_c.specs.held.Calls.{WorldChanges, WorldForgets, IsGone, TellsNewest, TellsSize, IsBegun, Refuses, AreSideAndCap, AreSlots, AsksForModels, CountsLine, call_status, status_of_file};
+ghost use Rattle.transcript.specs.declared.answers.Answer.TheVariants as answers;
+ghost use Rattle.core_laws.specs.contents.Versions.{HoldsVersion};
+ghost use Rattle.voxdag_c.specs.held.Places.{cell_of_c_place, box_of, ball_of};
+ghost use Rattle.voxdag_c.specs.held.Calls.{WorldChanges, WorldForgets, KeepsLast, IsGone, PutsNewest, PutsSize, IsBegun, Refuses, RefusesModels, AreSideAndCap, AreSlots, AsksForModels, CountsLine, call_status, status_of_file};
+ghost use Rattle.voxdag_c.specs.held.GoingOn.{IsCapAsked, IsPlanAsked};
 
-use crate::held::places::{Place, Stretch};
+use crate::held::places::{CBox, CPlace};
 use crate::held::statuses as status;
 use history_model::Act;
 use node_words::Plan;
+use retain::falls_out;
 use std::alloc::Global;
 use store_run::OpenWorld;
 use transcript::Answer;
@@ -21,17 +24,19 @@ use vw_cell::{Memory, Side};
 /// The most bytes of a file whose models are read.
 const MOST_BYTES: usize = 1 << 28;
 
-/// A world that C holds, and the number of the change that comes next. All that C does counts as
-/// done by session 0, each accepted change as its next line.
+/// A world that C holds, how many of its last versions are kept, 0 for all, and the number of the
+/// change that comes next. All that C does counts as done by session 0, each accepted change and
+/// each version that is forgotten as its next line.
 #[derive(Drop)]
-pub struct World {
+pub struct CWorld {
     pub open: OpenWorld,
+    pub keep: u32,
     pub line: u32,
 }
 
-impl World {
+impl CWorld {
     /// An empty world with these models.
-    pub fn begin(alloc: Global, plan: &Plan, models: Models) -> Result<World, Memory>
+    pub fn begin(alloc: Global, plan: &Plan, keep: u32, models: Models) -> Result<CWorld, Memory>
         requires { AreModels models }
         ensures empty { IfOk result (λ w. w.open ≡ record {
           plan = plan.now;
@@ -39,21 +44,29 @@ impl World {
           log = record { side = plan.now.side; coloured = false; records = []; marks = [] };
           noted = record { made = []; met = [] };
         }) }
+        ensures keep { IfOk result (λ w. w.keep ≡ keep) }
         ensures first { IfOk result (λ w. w.line ≡ 1) }
     {
         let open = OpenWorld::begin(alloc, plan, models)?;
-        Ok(World { open, line: 1 })
+        Ok(CWorld {
+            open,
+            keep,
+            line: 1,
+        })
     }
 
-    /// An empty world of this side and this number of slots of a bucket, 0 for the usual one, with
-    /// the models of a VOX file, where no bytes stand for no models. The box is made last.
+    /// An empty world of this side and this number of slots of a bucket, 0 for the usual one, that
+    /// keeps so many of its last versions, 0 for all, with the models of a VOX file, where no bytes
+    /// stand for no models. The box is made last.
+    #[tactic(auto, using(crate::proofs::OfHeld::Opening::models_refused))]
     pub fn from_bytes(
         alloc: Global,
         side: u32,
         cap: u16,
+        keep: u32,
         file: &[u8],
-    ) -> Result<Box<World, Global>, u32>
-        ensures begun { IfOk result (λ b. IsBegun side cap file.now b.value) }
+    ) -> Result<Box<CWorld, Global>, u32>
+        ensures begun { IfOk result (λ b. IsBegun side cap keep file.now b.value) }
         ensures refused { IfErr result (λ status. Refuses side cap file.now status) }
     {
         let plan = match plan_of(side, cap) {
@@ -61,14 +74,14 @@ impl World {
             None => return Err(status::BAD_PLAN),
         };
         let models = read_file(alloc, file)?;
-        match World::begin(alloc, &plan, models) {
+        match CWorld::begin(alloc, &plan, keep, models) {
             Ok(world) => boxed(alloc, world),
             Err(_) => Err(status::NO_MEMORY),
         }
     }
 
     /// Sets the cells of a box.
-    pub fn fill(&mut self, part: Stretch) -> u32
+    pub fn fill(&mut self, part: CBox) -> u32
         ensures { WorldChanges self.old (Fill (box_of part)) result self.new }
     {
         match part.box_in(self.open.side()) {
@@ -78,7 +91,7 @@ impl World {
     }
 
     /// Clears the cells of a box.
-    pub fn erase(&mut self, part: Stretch) -> u32
+    pub fn erase(&mut self, part: CBox) -> u32
         ensures { WorldChanges self.old (Erase (box_of part)) result self.new }
     {
         match part.box_in(self.open.side()) {
@@ -88,7 +101,7 @@ impl World {
     }
 
     /// Sets the cells of a ball.
-    pub fn ball(&mut self, centre: Place, radius: u32) -> u32
+    pub fn ball(&mut self, centre: CPlace, radius: u32) -> u32
         ensures { WorldChanges self.old (acts.Ball (ball_of centre radius)) result self.new }
     {
         match centre.ball_in(radius, self.open.side()) {
@@ -98,7 +111,7 @@ impl World {
     }
 
     /// Clears the cells of a ball.
-    pub fn carve(&mut self, centre: Place, radius: u32) -> u32
+    pub fn carve(&mut self, centre: CPlace, radius: u32) -> u32
         ensures { WorldChanges self.old (Carve (ball_of centre radius)) result self.new }
     {
         match centre.ball_in(radius, self.open.side()) {
@@ -108,11 +121,11 @@ impl World {
     }
 
     /// Puts what the box has where its least corner goes to the place.
-    pub fn copy(&mut self, part: Stretch, to: Place) -> u32
-        ensures { WorldChanges self.old (Copy (box_of part) (cell_of_place to)) result self.new }
+    pub fn copy(&mut self, part: CBox, to: CPlace) -> u32
+        ensures { WorldChanges self.old (Copy (box_of part) (cell_of_c_place to)) result self.new }
     {
         let side = self.open.side();
-        let there = Stretch {
+        let there = CBox {
             at: to,
             size: part.size,
         };
@@ -126,16 +139,16 @@ impl World {
     }
 
     /// Sets the cells of a model, whose number counts from 0, with its least corner at the place.
-    pub fn stamp(&mut self, number: u16, at: Place) -> u32
-        ensures { WorldChanges self.old (Stamp number (cell_of_place at)) result self.new }
+    pub fn stamp(&mut self, number: u16, at: CPlace) -> u32
+        ensures { WorldChanges self.old (Stamp number (cell_of_c_place at)) result self.new }
     {
         let size = match self.open.model_size(usize::from(number)) {
             Some(size) => size,
             None => return status::NO_MODEL,
         };
-        let there = Stretch {
+        let there = CBox {
             at,
-            size: Place::of(size),
+            size: CPlace::of(size),
         };
         match there.box_in(self.open.side()) {
             Some(b) => self.change(Act::Stamp(number, b.at)),
@@ -168,22 +181,34 @@ impl World {
 
     /// The number of the newest version.
     pub fn put_newest(&self, version: &mut u32) -> u32
-        ensures { TellsNewest self.now result version.new }
+        ensures { PutsNewest self.now result version.new }
     {
         *version = self.open.moment();
         status::DONE
     }
 
     /// The size of the model of this number, counted from 0.
-    pub fn put_model_size(&self, number: u16, size: &mut Place) -> u32
-        ensures { TellsSize self.now number size.old size.new result }
+    pub fn put_model_size(&self, number: u16, size: &mut CPlace) -> u32
+        ensures { PutsSize self.now number size.old size.new result }
     {
         match self.open.model_size(usize::from(number)) {
             Some(cells) => {
-                *size = Place::of(cells);
+                *size = CPlace::of(cells);
                 status::DONE
             }
             None => status::NO_MODEL,
+        }
+    }
+
+    // Forgets the version that falls out of the last ones that are kept, where one does.
+    fn keep_last(&mut self)
+        ensures { KeepsLast self.old self.new }
+    {
+        match falls_out(self.open.moment(), self.keep) {
+            Some(version) => {
+                let _status = self.forget(version);
+            }
+            None => {}
         }
     }
 
@@ -196,7 +221,11 @@ impl World {
         match self.open.change(0, self.line, act) {
             Ok(answer) => {
                 self.line = next_line(self.line, answer);
-                status_of(answer)
+                if !is_done(answer) {
+                    return status_of(answer);
+                }
+                self.keep_last();
+                status::DONE
             }
             Err(_) => status::NO_MEMORY,
         }
@@ -204,7 +233,7 @@ impl World {
 
     // Why a version can't be read.
     pub(crate) fn why_gone(&self, version: u32) -> u32
-        requires { ¬ IsKept self.now.open.log version }
+        requires { ¬ HoldsVersion self.now.open.log version }
         ensures { IsGone self.now.open.log version result }
     {
         if version > self.open.moment() {
@@ -221,10 +250,17 @@ fn plan_of(side: u32, cap: u16) -> Option<Plan>
     ensures plan { IfSome result (λ p. (2 ^ p.side ≡ side) × (p.buckets ≡ usual_buckets)) }
     ensures cap { IfSome result (λ p. AreSlots cap p.cap) }
 {
-    let side = match Side::new(side) {
-        Some(side) => side,
-        None => return None,
-    };
+    match Side::new(side) {
+        Some(side) => plan_with(side, cap),
+        None => None,
+    }
+}
+
+// The plan of a store of this side, where buckets can have so many slots.
+pub(crate) fn plan_with(side: Side, cap: u16) -> Option<Plan>
+    ensures exactly { IsSome result ↔ IsCapAsked cap }
+    ensures plan { IfSome result (IsPlanAsked side cap) }
+{
     if cap == 0 {
         Some(Plan::usual(side))
     } else {
@@ -233,11 +269,10 @@ fn plan_of(side: u32, cap: u16) -> Option<Plan>
 }
 
 // The models of the file, none where it has no bytes.
-fn read_file(alloc: Global, file: &[u8]) -> Result<Models, u32>
+pub(crate) fn read_file(alloc: Global, file: &[u8]) -> Result<Models, u32>
     ensures models { IfOk result AreModels }
     ensures are { IfOk result (λ models. AsksForModels file.now models) }
-    ensures refused { IfErr result (λ status. (side cap : ℕ) → AreSideAndCap side cap
-        → Refuses side cap file.now status) }
+    ensures refused { IfErr result (λ status. RefusesModels file.now status) }
 {
     if file.is_empty() {
         return Ok(Models {
@@ -262,13 +297,22 @@ fn status_of_file(fault: VoxFault) -> u32
     }
 }
 
-fn boxed(alloc: Global, world: World) -> Result<Box<World, Global>, u32>
+pub(crate) fn boxed(alloc: Global, world: CWorld) -> Result<Box<CWorld, Global>, u32>
     ensures value { IfOk result (λ b. b.value ≡ world) }
     ensures refused { IfErr result (λ status. status ≡ 2) }
 {
     match Box::new(alloc, world) {
         Ok(world) => Ok(world),
         Err(_) => Err(status::NO_MEMORY),
+    }
+}
+
+fn is_done(answer: Answer) -> bool
+    ensures { IsTrue result ↔ (answer ≡ answers.Done) }
+{
+    match answer {
+        Answer::Done => true,
+        _ => false,
     }
 }
 

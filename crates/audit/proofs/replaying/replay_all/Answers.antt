@@ -1,7 +1,7 @@
 use Rattle.std.proofs.Common.{◌≡◌, ◌+◌, ◌++◌, ◌∷◌, [], Bool, true, false, List, length, get_or, ◌^◌, Ok, sym, ap, subst, ◌∙◌, refl, arith, length-append, rules, ◌<◌}
 use Rattle.std.proofs.lemmas.List.{take_more}
 use Rattle.history_model.specs.declared.histories.Record.{Record}
-use Rattle.audit.specs.declared.replaying.Ways.{Ways}
+use Rattle.audit.specs.declared.replaying.UndoTargets.{UndoTargets}
 use Rattle.audit.specs.Replaying.{Steps}
 use Rattle.audit.proofs.Following.{HasReplayed, replayed_stop, replayed_more, refused_along, steps_as, any_record}
 use Rattle.audit.proofs.replaying.replay_all.Goals as goal
@@ -42,7 +42,7 @@ loop-record-preserved g c =
     let r : Record = get_or c.args.records.now c.loop-record.record-index any_record in
     let came : c.step.new.replay.records ≡ c.loop-record.replay.records ++ r ∷ [] =
     c.in-Ok-true.ensures.more (ap Ok c.in-Ok-true.field-0-test) in
-    let pushed : c.push.new.self.items ≡ c.loop-record.ways.items ++ c.ways_now.result ∷ [] =
+    let pushed : c.push.new.self.items ≡ c.loop-record.ways.items ++ c.undo_targets_now.result ∷ [] =
     search rules in
     record {
       plan = c.in-Ok-true.ensures.plan ∙ c.loop-record.invariant.plan;
@@ -62,12 +62,12 @@ loop-record-preserved g c =
           (Ok b)
           c.step.new.replay.records)
           c.in-Ok-true.field-0-test (c.in-Ok-true.ensures.steps marks tells)) in
-          subst (λ (ws : List Ways). HasReplayed (2 ^ p.side) models marks
+          subst (λ (ws : List UndoTargets). HasReplayed (2 ^ p.side) models marks
           c.args.records.now (c.loop-record.record-index + 1) c.step.new.replay.records ws)
           (sym pushed)
           (replayed_more (2 ^ p.side) models marks c.args.records.now
           c.loop-record.replay.records c.step.new.replay.records c.loop-record.record-index
-          c.loop-record.ways.items c.ways_now.result r any_record
-          (c.loop-record.invariant.so_far marks tells) (omega arith) refl c.ways_now.ensures
+          c.loop-record.ways.items c.undo_targets_now.result r any_record
+          (c.loop-record.invariant.so_far marks tells) (omega arith) refl c.undo_targets_now.ensures
           steps.0 steps.1));
     }

@@ -1,4 +1,4 @@
-use Rattle.std.proofs.Common.{rules, ◌≡◌, ◌<◌, ◌≤◌, ◌+◌, ℕ, Bool, List, drop, get_or, length, true, refl, subst, sym, ◌∙◌, arith}
+use Rattle.std.proofs.Common.{rules, ◌≡◌, ◌<◌, ◌≤◌, ◌+◌, ℕ, Bool, List, drop, get_or, length, true, refl, subst, sym, arith}
 use Rattle.std.specs.Prelude.{All}
 use Rattle.vox_read.specs.Contents.{Content}
 use Rattle.history_model.specs.declared.histories.Mark.{Mark}
@@ -46,9 +46,9 @@ returns-in-Err-clause-refused g c =
     let now = c.loop-record.replay in
     let is : c.deref-record-items.result.now ≡ c.args.history.now.records = search rules in
     refuses_next c.args.replay.now.models c.args.history.now c.args.due.now c.requires.due
-    c.loop-record.record-index c.loop-record.next now any_record c.in-Err.why
+    c.args.replay.now.plan c.loop-record.record-index c.loop-record.next now any_record c.in-Err.why
     c.loop-record.invariant.so_far (search rules) c.requires.records
-    (c.loop-record.invariant.plan ∙ c.requires.plan)
+    c.loop-record.invariant.plan
     (subst (λ (rs : List Record). RefusesRecord (replayed now)
     (get_or rs c.loop-record.record-index any_record) c.in-Err.why) is c.in-Err.ensures.refused)
 

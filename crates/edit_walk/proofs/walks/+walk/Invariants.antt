@@ -29,7 +29,7 @@ invariant-gather-loop-k g l =
       partway : (base rest : List Tree) (cells : Cells)
           → Begins g.T.Task.makes base rest l.level l.task cells
           (walk_at (seen l.fn.store) l.fn.full (g.M.Memo.has l.fn.memo))
-          → Partway g.T.Task.makes base rest l.level l.task cells l.children l.k
+          → Partway g.T.Task.makes base rest l.level l.task cells l.children l.standing l.k
           (walk_at (seen l.store) l.full (g.M.Memo.has l.memo));
       grows : (base rest : List Tree) (cells : Cells)
           → Begins g.T.Task.makes base rest l.level l.task cells
@@ -38,5 +38,6 @@ invariant-gather-loop-k g l =
       turns : l.steps + 16 * height l.fn.full ≤ l.fn.steps + 16 * height l.full + l.k + 25 * sum_below l.k (g.T.Task.mixed_in l.level l.task);
       height_is : height l.full ≤ max (height l.fn.full) l.level;
       long : length l.children ≡ 8;
+      wide : length l.standing ≡ 8;
       rests : g.N.Blocks.rests l.fn.store l.store;
     }

@@ -6,8 +6,8 @@ use Rattle.edit_walk.proofs.WalkLaws.{came_number, aside_may, rebuilt_comes, reb
 use Rattle.edit_walk.proofs.MemoLaws.{begins_held, recalls_after}
 use Rattle.edit_walk.proofs.walks.rebuild.Goals as goal
 
-pub build-requires-clause-task : goal.build-requires-clause-task
-build-requires-clause-task g c =
+pub share_of-requires-clause-task : goal.share_of-requires-clause-task
+share_of-requires-clause-task g c =
     let (base, cells, k, m) = c.requires.task in
     (_, _, cells, begins_held _ base _ _ _ cells _ g.T.Task.lasts c.held-held.ensures.trees.named k c.requires.memo m)
 
@@ -77,7 +77,7 @@ returns-in-Ok-clause-turns g c =
     (c.in-Ok.ensures.walked _ _ cells
     (begins_held _ base _ _ _ cells _ g.T.Task.lasts c.held-held.ensures.trees.named k c.requires.memo m)).built.came in
     let b =
-    back_turns _ c.build.new.full w.aside.tree _ _ c.back_if.ensures.none
+    back_turns _ c.share_of.new.full w.aside.tree _ _ c.back_if.ensures.none
     (λ n e. c.back_if.ensures.turns w.aside.tree n e w.aside.root
     (aside_may _ _ _ w.aside)) w.aside.shape in
     omega (arith, b, c.in-Ok.ensures.took.turns, c.in-Ok.ensures.took.height_is)

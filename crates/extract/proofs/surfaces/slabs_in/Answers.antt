@@ -3,7 +3,7 @@ use Rattle.vw_cell.specs.Places.{block_side}
 use Rattle.node_words.specs.shapes.Tree.{shape_of}
 use Rattle.node_words.specs.descent.Roots.{cells_of}
 use Rattle.node_words.proofs.OfDescent.LookLaws.{block_still}
-use Rattle.measure.specs.Faces.{passes_bare}
+use Rattle.measure.specs.Faces.{passes_exposed}
 use Rattle.measure.proofs.WholeLaws.{whole_right_before}
 use Rattle.extract.specs.Surface.{bare_sides_of, layer_of_sides}
 use Rattle.extract.proofs.SurfaceLaws.{slab_more, slab_none}
@@ -32,7 +32,7 @@ loop-z-preserved g c =
           (c.slab_in.ensures.voxels c.if-not-slab_in.false t
           (block_still (seen c.args.store.now)
           (seen c.loop-z.store) c.args.level c.args.block t was.same o));
-      right = whole_right_before passes_bare (seen c.slab_in.new.store) (seen c.loop-z.store) _
+      right = whole_right_before passes_exposed (seen c.slab_in.new.store) (seen c.loop-z.store) _
           (sym c.slab_in.ensures.seen) c.slab_in.ensures.wholes;
       block = c.slab_in.ensures.block;
       same = c.slab_in.ensures.seen ∙ was.same;

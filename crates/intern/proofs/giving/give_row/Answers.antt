@@ -4,7 +4,7 @@ use Rattle.node_words.specs.Held.{name_in}
 use Rattle.node_words.proofs.GatherLaws.{lose_more, may_next, fewer}
 use Rattle.node_table.proofs.OnlyShares.{only_on}
 use Rattle.node_table.proofs.Taking.{one_emptied}
-use Rattle.intern.specs.Nodes.{IsKeptBelow}
+use Rattle.intern.specs.Nodes.{IsHeldBelow}
 use Rattle.intern.proofs.GivingLaws.{next_kept}
 use Rattle.intern.proofs.giving.give_row.Goals as goal
 
@@ -14,7 +14,7 @@ give_kept-requires-clause-kept g c =
     let k = c.loop-k.k in let inv = c.loop-k.invariant in let h = c.requires.held in
     let taken : c.take_at-child.result ≡ name_in c.args.children k =
     c.take_at-child.ensures.taken ∙ inv.emptied.kept k (omega arith) in
-    subst (λ (o : Option Name). IsKeptBelow mid o) (sym taken)
+    subst (λ (o : Option Name). IsHeldBelow mid o) (sym taken)
     (next_kept old mid c.args.children h.row k c.loop-k-test.true h.are_held h.over
     (inv.gone h.row h.are_held))
 

@@ -4,7 +4,7 @@ use Rattle.node_words.specs.Gathering.{LosesAll}
 use Rattle.node_words.specs.Held.{AreHeld}
 use Rattle.node_table.proofs.Taking.{Emptied}
 use Rattle.node_table.specs.Acts.{OnlySharesChange}
-use Rattle.node_table.specs.Seen.{BelongsTo}
+use Rattle.node_table.specs.TableStates.{BelongsTo}
 use Rattle.intern.proofs.giving.give_row.Given as goal
 
 abbrev pub invariant-loop-k : goal.invariant-loop-k

@@ -7,13 +7,13 @@ use Rattle.node_words.specs.shapes.Tree.{Tree}
 use Rattle.node_words.specs.Keys.{bucket_of_key}
 use Rattle.node_words.specs.Plans.{buckets_at}
 use Rattle.core_laws.specs.places.Names.{named}
-use Rattle.core_laws.specs.places.Spots.{Spot}
+use Rattle.core_laws.specs.places.WordIds.{WordId}
 use Rattle.node_table.specs.Views.{SeatView}
 use Rattle.node_table.specs.Changes.{HasKeyWords, PassesBelow}
 use Rattle.node_table.proofs.Answering.{answers_keep, learns_keep}
 use Rattle.node_table.specs.Learning.{IsKnownLive}
 use Rattle.node_table.specs.Learning.IsKnownLive.{keyed}
-use Rattle.node_table.specs.Seen.{bucket_named}
+use Rattle.node_table.specs.TableStates.{bucket_named}
 use Rattle.node_table.specs.declared.places.Place.TheVariants.{NoRoom}
 use Rattle.intern.proofs.NodeLaws.{asks, node_searched, kept_now, room_now, shared_now, added_now, refused_now, absent, met_node, node_sought, is_bucket, low_bucket, passes_here}
 use Rattle.intern.proofs.nodes.node.Goals as goal
@@ -156,7 +156,7 @@ returns-in-NoRoom-clause-taken g c = λ row are.
     let none = absent v u level bucket names row q c.find.ensures.tells s.held s.turn is
     (passes_here v c.args.table.now t.table.now t.level t.bucket level bucket u.words names
     e.bucket.0 e.bucket.1 e.table c.requires.of.plan
-    (subst (λ (ws : List (Spot × ℕ)). PassesBelow ws (Node names) (bucket_named t.level t.bucket)
+    (subst (λ (ws : List (WordId × ℕ)). PassesBelow ws (Node names) (bucket_named t.level t.bucket)
     (t.table.now.plan).cap) (sym words) a.none)) in
     let old : a.before.view.met ≡ v.met =
     ap (λ (x : SeatView). x.met) a.learns.else_is ∙ ap (λ (x : SeatView). x.met) e.view in

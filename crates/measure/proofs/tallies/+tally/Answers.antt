@@ -1,6 +1,6 @@
 use Rattle.std.proofs.Common.{◌+◌, ◌-◌, arith, refl, rules, subst, sym, ◌∙◌}
 use Rattle.vw_cell.specs.Places.{block_side}
-use Rattle.node_words.specs.Held.{Seen}
+use Rattle.node_words.specs.Held.{StoreState}
 use Rattle.node_words.specs.Sums.{sum_below-zero}
 use Rattle.measure.proofs.TallyLaws.{none_tallied, empty_tallied, empty_octant, octant_tallied, octant_counts, octant_ends, octant_part, octant_more, tallied_all, tallied_fits}
 use Rattle.measure.proofs.WholeLaws.{whole_right_before, part_of_whole, tally_before, right_before, leaf_tally}
@@ -117,7 +117,7 @@ tally_octants-tally_octant-number-requires g t c κs within =
                     (
                       c.requires.block.0,
                       subst
-                          (λ (s : Seen). g.S.Subject.counts s.held level c.args.of.now.subject c.requires.block.0) (sym same) c.requires.block.1,
+                          (λ (s : StoreState). g.S.Subject.counts s.held level c.args.of.now.subject c.requires.block.0) (sym same) c.requires.block.1,
                     ),
                     (
                       is,

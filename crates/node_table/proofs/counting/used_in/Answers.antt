@@ -1,7 +1,7 @@
 use Rattle.std.proofs.Common.{ap, ◌∙◌, arith}
 use Rattle.std.specs.Slots.{slots_items}
 use Rattle.node_words.specs.Plans.{Layout}
-use Rattle.core_laws.specs.places.Spots.{Used, place}
+use Rattle.core_laws.specs.places.WordIds.{Used, place}
 use Rattle.core_laws.proofs.OfPlaces.Apart.{place_low}
 use Rattle.table_rule.specs.Reading.{word_at}
 use Rattle.node_table.proofs.CountLaws.{unused_free, word_read}

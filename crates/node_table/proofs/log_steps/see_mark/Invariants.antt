@@ -1,6 +1,6 @@
 use Rattle.table_rule.specs.Views.{known_at}
 use Rattle.std.proofs.Common.{◌≡◌, Some, ℕ}
-use Rattle.core_laws.specs.places.Spots.{Version}
+use Rattle.core_laws.specs.places.WordIds.{Version}
 use Rattle.std.specs.List.{Contains}
 use Rattle.table_rule.specs.LogWords.{mark_of_words}
 use Rattle.table_rule.specs.LogChanges.{log_knowing, with_seen_mark}

@@ -1,5 +1,5 @@
 use Rattle.table_rule.specs.Changes.{Counted}
-use Rattle.node_table.specs.Seen.{bucket_named}
+use Rattle.node_table.specs.TableStates.{bucket_named}
 use Rattle.node_table.proofs.steps.count_used.Given as goal
 
 abbrev pub ghosts-load_as : goal.ghosts-load_as

@@ -1,5 +1,5 @@
 use Rattle.std.proofs.Common.{◌≡◌}
-use Rattle.core_laws.specs.places.Spots.{Used}
+use Rattle.core_laws.specs.places.WordIds.{Used}
 use Rattle.table_rule.specs.Changes.{knowing}
 use Rattle.node_table.proofs.steps.raise_used.Given as goal
 

@@ -1,6 +1,6 @@
 use Rattle.history_model.specs.Stores.{store_has}
 use Rattle.core_laws.specs.contents.Aligned.{world_block}
-use Rattle.core_laws.specs.contents.Versions.{IsKept}
+use Rattle.core_laws.specs.contents.Versions.{HoldsVersion}
 use Rattle.report.proofs.RootLaws.{sound_roots}
 use Rattle.report.proofs.NumberLaws.{one_number, numbers_told}
 use Rattle.report.proofs.OneReport.{one_report}
@@ -11,6 +11,6 @@ returns c = record {
   roots = sound_roots;
   numbers = numbers_told;
   one_number = λ models log level a b. one_number (world_block log.side)
-      (λ v. store_has models log v) (IsKept log) level a b;
+      (λ v. store_has models log v) (HoldsVersion log) level a b;
   one_report = one_report;
 }

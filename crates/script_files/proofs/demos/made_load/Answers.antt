@@ -1,7 +1,7 @@
 use Rattle.std.proofs.Common.{rules, false, ◌≡◌, ℕ, List, [], ◌∷◌, Ok, map, ap, sym, subst, ◌∙◌, arith}
 use Rattle.vox_read.specs.Files.{ReadsModels}
 use Rattle.gen_load.specs.Loads.{load_model, load_scripts}
-use Rattle.script_files.specs.Scripts.{scripts_of}
+use Rattle.commands.specs.Scripts.{scripts_of}
 use Rattle.script_files.proofs.Loading.{few_texts, load_read}
 use Rattle.script_files.proofs.demos.made_load.Goals as goal
 

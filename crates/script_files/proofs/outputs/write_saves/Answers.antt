@@ -1,11 +1,8 @@
 use Rattle.std.proofs.Common.{Ok, map, take, drop, subst, ◌∙◌}
-use Rattle.vw_io.specs.Outputs.{StopsWith}
-use Rattle.world_run.specs.Open.{RunState}
-use Rattle.script_files.specs.Refusals.{output_name}
-use Rattle.world_run.specs.Open.{file_of_save}
+use Rattle.world_run.specs.Open.{RunState, file_of_save}
 use Rattle.script_files.specs.Requests.{saved_output}
-use Rattle.script_files.specs.Stages.{Writes}
-use Rattle.script_files.proofs.Writing.{next_output, next_stops}
+use Rattle.commands.specs.Putting.{StopsAmong, Writes}
+use Rattle.script_files.proofs.Staging.{next_output, next_stops}
 use Rattle.script_files.proofs.outputs.write_saves.Goals as goal
 
 pub returns-in-Err-clause-writes : goal.returns-in-Err-clause-writes
@@ -16,10 +13,9 @@ returns-in-Err-clause-writes g c =
     let new = g.S.Shelf.state c.write_save.new.shelf in
     next_stops r (map (saved_output (file_of_save run.tint run.models)) run.kept) c.loop-k.k
     (g.S.Shelf.state c.args.shelf.now) mid new c.loop-k.invariant.0
-    (subst (λ (s : RunState). StopsWith r.why (output_name r.name)
-    (take 1 (drop c.loop-k.k
-    (map (saved_output (file_of_save s.tint s.models)) s.kept))) mid.files new.files
-    mid.faults new.faults) c.loop-k.invariant.1 c.in-Err.ensures.writes)
+    (subst (λ (s : RunState). StopsAmong r
+    (take 1 (drop c.loop-k.k (map (saved_output (file_of_save s.tint s.models)) s.kept))) mid new)
+    c.loop-k.invariant.1 c.in-Err.ensures.writes)
 
 pub loop-k-preserved : goal.loop-k-preserved
 loop-k-preserved g c =

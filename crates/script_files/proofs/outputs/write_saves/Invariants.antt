@@ -2,7 +2,7 @@
 use Rattle.std.proofs.Common.{◌≡◌, map}
 use Rattle.world_run.specs.Open.{file_of_save}
 use Rattle.script_files.specs.Requests.{saved_output}
-use Rattle.script_files.proofs.Writing.{IsWrittenTo}
+use Rattle.script_files.proofs.Staging.{IsWrittenTo}
 use Rattle.script_files.proofs.outputs.write_saves.Given as goal
 
 abbrev pub invariant-loop-k : goal.invariant-loop-k

@@ -1,6 +1,6 @@
 -- The file, and the scripts before this one.
 use Rattle.std.proofs.Common.{◌≡◌, ◌∷◌, take, map}
-use Rattle.script_files.specs.Requests.{vox_limit, script_input}
+use Rattle.commands.specs.Inputs.{vox_limit, script_input}
 use Rattle.script_files.proofs.runs.run_inputs.Given as goal
 
 abbrev pub invariant-loop-script : goal.invariant-loop-script

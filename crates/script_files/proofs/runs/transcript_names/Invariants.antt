@@ -1,7 +1,7 @@
 -- The names of the transcripts of the scripts before this one.
 use Rattle.std.proofs.Common.{◌≡◌, take, map}
 use Rattle.std.specs.Prelude.{string_bytes}
-use Rattle.script_files.specs.Requests.{transcript_name}
+use Rattle.commands.specs.Inputs.{transcript_name}
 use Rattle.script_files.proofs.runs.transcript_names.Given as goal
 
 abbrev pub invariant-loop-script : goal.invariant-loop-script

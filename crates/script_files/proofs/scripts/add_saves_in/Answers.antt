@@ -1,5 +1,5 @@
 use Rattle.std.proofs.Common.{map}
-use Rattle.script_files.proofs.ScriptLists.{next_names}
+use Rattle.script_files.proofs.SavedNames.{next_names}
 use Rattle.script_files.proofs.scripts.add_saves_in.Goals as goal
 
 pub loop-line-preserved : goal.loop-line-preserved

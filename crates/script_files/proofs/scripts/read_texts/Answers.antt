@@ -1,6 +1,6 @@
 use Rattle.std.proofs.Common.{rules, ◌≡◌}
-use Rattle.script_files.specs.Meanings.{file_in}
-use Rattle.script_files.proofs.Refusing.{first_refused, first_text}
+use Rattle.commands.specs.Meanings.{file_in}
+use Rattle.script_files.proofs.RunTexts.{first_refused, first_text}
 use Rattle.script_files.proofs.scripts.read_texts.Goals as goal
 
 pub returns-in_err-models-clause-refused : goal.returns-in_err-models-clause-refused

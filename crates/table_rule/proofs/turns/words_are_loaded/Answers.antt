@@ -1,6 +1,6 @@
 use Rattle.table_rule.proofs.AnyTree.{meets_any}
 use Rattle.table_rule.proofs.Loads.{looks}
-use Rattle.table_rule.proofs.Small.{looks_book}
+use Rattle.table_rule.proofs.Tags.{looks_book}
 use Rattle.table_rule.proofs.UsedSlots.{counts_used}
 use Rattle.table_rule.proofs.turns.words_are_loaded.Goals as goal
 

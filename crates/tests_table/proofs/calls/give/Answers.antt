@@ -1,7 +1,7 @@
 use Rattle.std.proofs.Common.{rules, ◌≡◌, sym, ap, subst}
 use Rattle.node_words.specs.declared.shapes.names.Name.{Name}
 use Rattle.node_words.specs.Held.{IsHeld}
-use Rattle.node_table.specs.Spots.{Turn, IsSpot}
+use Rattle.node_table.specs.WordIds.{Turn, IsWordId}
 use Rattle.table_rule.specs.Views.{SeatView}
 use Rattle.node_table.specs.declared.lowering.Lowering.TheVariants.{Freed}
 use Rattle.tests_table.proofs.Giving.{held_bucket, gone_again, as_left}
@@ -9,7 +9,7 @@ use Rattle.tests_table.proofs.calls.give.Goals as goal
 
 pub turn-turn-requires-clause-there : goal.turn-turn-requires-clause-there
 turn-turn-requires-clause-there g c =
-    subst (λ (n : Name). IsSpot c.args.table.now.plan (Turn n.level n.bucket))
+    subst (λ (n : Name). IsWordId c.args.table.now.plan (Turn n.level n.bucket))
     (sym c.name-n.ensures)
     (held_bucket c.args.table.now c.args.pass.now c.args.share c.requires.of c.tell.ensures
     c.requires.held)

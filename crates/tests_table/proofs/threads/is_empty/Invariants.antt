@@ -1,6 +1,6 @@
 use Rattle.std.proofs.Common.{◌≡◌, None}
 use Rattle.node_words.specs.Held.{SameHeld}
-use Rattle.node_table.specs.Seen.{BelongsTo}
+use Rattle.node_table.specs.TableStates.{BelongsTo}
 use Rattle.tests_table.proofs.threads.is_empty.Given as goal
 
 abbrev pub invariant-loop-bits : goal.invariant-loop-bits

@@ -8,7 +8,7 @@ use Rattle.tests_table.proofs.tinted.tint_after.Goals as goal
 pub tint_at-tint-requires-clause-root : goal.tint_at-tint-requires-clause-root
 tint_at-tint-requires-clause-root g c =
     let (before, w) = root_shown _ c.args.side _ c.requires.old in
-    made_root _ _ c.args.side _ _ _ (c.in-Ok.ensures.ok before w) c.as_ref.ensures.value
+    made_root _ _ c.args.side _ _ _ ((c.in-Ok.ensures.made before w).came) c.as_ref.ensures.value
 
 pub tint_at-tint-requires-clause-cell : goal.tint_at-tint-requires-clause-cell
 tint_at-tint-requires-clause-cell g c =
@@ -19,25 +19,25 @@ tint_at-tint-requires-clause-cell g c =
 pub back_if-requires-clause-held : goal.back_if-requires-clause-held
 back_if-requires-clause-held g c =
     let (before, w) = root_shown _ c.args.side _ c.requires.old in
-    made_may _ _ _ c.args.side _ _ (c.in-Ok.ensures.ok before w) c.tint_at-tint.ensures.seen
+    made_may _ _ _ c.args.side _ _ ((c.in-Ok.ensures.made before w).came) c.tint_at-tint.ensures.seen
 
 pub back_if-requires-clause-room : goal.back_if-requires-clause-room
 back_if-requires-clause-room g c =
     let (before, w) = root_shown _ c.args.side _ c.requires.old in
-    let few = made_number _ _ _ c.args.side 3001 _ _ (c.in-Ok.ensures.ok before w)
+    let few = made_number _ _ _ c.args.side 3001 _ _ ((c.in-Ok.ensures.made before w).came)
     c.tint_at-tint.ensures.seen c.requires.room in omega arith
 
 pub returns-in-Ok-clause-held : goal.returns-in-Ok-clause-held
 returns-in-Ok-clause-held g c =
     let seen = g.N.Blocks.seen in
     let (before, w) = root_shown _ c.args.side _ c.requires.old in
-    made_and_given (seen c.args.store.now) (seen c.make.new.store)
+    made_and_given (seen c.args.store.now) (seen c.rebuild_act.new.store)
     (seen c.tint_at-tint.new.store) (seen c.back_if.new.store) c.args.side c.in-Ok.root _
-    (c.in-Ok.ensures.ok before w) c.tint_at-tint.ensures.seen c.back_if.ensures.gone
+    ((c.in-Ok.ensures.made before w).came) c.tint_at-tint.ensures.seen c.back_if.ensures.gone
 
 pub returns-in-Err-clause-held : goal.returns-in-Err-clause-held
 returns-in-Err-clause-held g c =
     let seen = g.N.Blocks.seen in
     let (before, w) = root_shown _ c.args.side _ c.requires.old in
-    same_kept (seen c.args.store.now) (seen c.make.new.store)
-    (c.in-Err.ensures.full before w).held
+    same_kept (seen c.args.store.now) (seen c.rebuild_act.new.store)
+    (c.in-Err.ensures.made before w).held

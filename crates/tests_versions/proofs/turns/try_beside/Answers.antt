@@ -1,7 +1,7 @@
 use Rattle.std.proofs.Common.{rules, sym, ap, ◌∙◌, subst}
 use Rattle.table_rule.specs.Views.{SeatView}
 use Rattle.node_table.specs.Closing.{IsSpare}
-use Rattle.node_table.specs.Seen.{PassSeen}
+use Rattle.node_table.specs.TableStates.{PassState}
 use Rattle.tests_versions.specs.Uniform.{uniform_act}
 use Rattle.tests_versions.proofs.HoldingLaws.{back_few, fell_few, few_behind, few_taken, gone_whole, made_act, spare_behind}
 use Rattle.tests_versions.proofs.turns.try_beside.Goals.{in-Ok, in-Err-LogFull}
@@ -34,12 +34,12 @@ pub returns-clause-first : goal.returns-clause-first
 returns-clause-first g c = elim c.match-finish.branch [
   | in-Ok w ↦
       let made = w.in-Ok.ensures.came in
-      subst (λ (s : PassSeen). IsSpare c.args.table.now s) (sym w.a-is)
+      subst (λ (s : PassState). IsSpare c.args.table.now s) (sym w.a-is)
       (spare_behind _ _ _ _ _ _ _ _ _ _ made
       (gone_whole _ _ _ c.uniform_root-own.ensures _ _ _ _ _
       (ap (λ (x : SeatView). x.held) c.sure-turn.ensures.takes.is) made.appends)
       (search rules) w.fallen_back.ensures.of w.fallen_back.ensures.idle
       w.fallen_back.ensures.gone)
   | in-Err-LogFull w ↦
-      subst (λ (s : PassSeen). IsSpare c.args.table.now s) (sym w.a-is) w.all_back.ensures
+      subst (λ (s : PassState). IsSpare c.args.table.now s) (sym w.a-is) w.all_back.ensures
 ]

@@ -7,28 +7,28 @@ use Rattle.version_log.proofs.finishing.append_next.Goals as goal
 pub log_append_on-requires-clause-may : goal.log_append_on-requires-clause-may
 log_append_on-requires-clause-may c =
     let r = c.requires in
-    let m : MayGoOn c.args.pass.now.view c.stands_next-now.new.pass.view c.args.table.now.plan
+    let m : MayGoOn c.args.pass.now.view c.cursor_ahead-now.new.pass.view c.args.table.now.plan
     c.number-number.result c.args.line c.args.act.now c.args.root c.record_words-words.result =
-    next_goes_on c.args.pass.now.view c.stands_next-now.new.pass.view _ c.args.table.now.plan
+    next_goes_on c.args.pass.now.view c.cursor_ahead-now.new.pass.view _ c.args.table.now.plan
     c.number-number.result c.args.line c.args.at c.args.act.now c.args.root
-    c.record_words-words.result c.stands_next-now.result.now c.stands_next-now.result.last
-    r.turn.sees.turn c.stands_next-now.ensures.learns refl r.at r.room r.turn.of.plan
+    c.record_words-words.result c.cursor_ahead-now.result.now c.cursor_ahead-now.result.last
+    r.turn.sees.turn c.cursor_ahead-now.ensures.learns refl r.at r.room r.turn.of.plan
     c.number-number.ensures r.may.fits r.may.target c.tell_numbers.ensures c.ranges.line.fits r.may.made
-    c.stands_next-now.ensures.stands.next c.record_words-words.ensures
+    c.cursor_ahead-now.ensures.stands.next c.record_words-words.ensures
     in
     may_append _ _ _ _ _ _ _ _ m
 
 pub returns-clause-appends : goal.returns-clause-appends
 returns-clause-appends c =
     let r = c.requires in
-    let m : MayGoOn c.args.pass.now.view c.stands_next-now.new.pass.view c.args.table.now.plan
+    let m : MayGoOn c.args.pass.now.view c.cursor_ahead-now.new.pass.view c.args.table.now.plan
     c.number-number.result c.args.line c.args.act.now c.args.root c.record_words-words.result =
-    next_goes_on c.args.pass.now.view c.stands_next-now.new.pass.view _ c.args.table.now.plan
+    next_goes_on c.args.pass.now.view c.cursor_ahead-now.new.pass.view _ c.args.table.now.plan
     c.number-number.result c.args.line c.args.at c.args.act.now c.args.root
-    c.record_words-words.result c.stands_next-now.result.now c.stands_next-now.result.last
-    r.turn.sees.turn c.stands_next-now.ensures.learns refl r.at r.room r.turn.of.plan
+    c.record_words-words.result c.cursor_ahead-now.result.now c.cursor_ahead-now.result.last
+    r.turn.sees.turn c.cursor_ahead-now.ensures.learns refl r.at r.room r.turn.of.plan
     c.number-number.ensures r.may.fits r.may.target c.tell_numbers.ensures c.ranges.line.fits r.may.made
-    c.stands_next-now.ensures.stands.next c.record_words-words.ensures
+    c.cursor_ahead-now.ensures.stands.next c.record_words-words.ensures
     in
     appends _ _ _ _ _ _ _ _ m c.tell.ensures (log_left c.log_append_on.new.pass.view)
     c.log_append_on.result c.log_append_on.ensures.number c.log_append_on.ensures.appended
@@ -36,14 +36,14 @@ returns-clause-appends c =
 pub returns-clause-number : goal.returns-clause-number
 returns-clause-number c =
     let r = c.requires in
-    let m : MayGoOn c.args.pass.now.view c.stands_next-now.new.pass.view c.args.table.now.plan
+    let m : MayGoOn c.args.pass.now.view c.cursor_ahead-now.new.pass.view c.args.table.now.plan
     c.number-number.result c.args.line c.args.act.now c.args.root c.record_words-words.result =
-    next_goes_on c.args.pass.now.view c.stands_next-now.new.pass.view _ c.args.table.now.plan
+    next_goes_on c.args.pass.now.view c.cursor_ahead-now.new.pass.view _ c.args.table.now.plan
     c.number-number.result c.args.line c.args.at c.args.act.now c.args.root
-    c.record_words-words.result c.stands_next-now.result.now c.stands_next-now.result.last
-    r.turn.sees.turn c.stands_next-now.ensures.learns refl r.at r.room r.turn.of.plan
+    c.record_words-words.result c.cursor_ahead-now.result.now c.cursor_ahead-now.result.last
+    r.turn.sees.turn c.cursor_ahead-now.ensures.learns refl r.at r.room r.turn.of.plan
     c.number-number.ensures r.may.fits r.may.target c.tell_numbers.ensures c.ranges.line.fits r.may.made
-    c.stands_next-now.ensures.stands.next c.record_words-words.ensures
+    c.cursor_ahead-now.ensures.stands.next c.record_words-words.ensures
     in
     let w : SeatView = log_left c.log_append_on.new.pass.view in
     appends_number c.args.pass.now.view w c.args.line c.args.act.now c.args.root
@@ -54,14 +54,14 @@ returns-clause-number c =
 pub returns-clause-fewer : goal.returns-clause-fewer
 returns-clause-fewer c =
     let r = c.requires in
-    let m : MayGoOn c.args.pass.now.view c.stands_next-now.new.pass.view c.args.table.now.plan
+    let m : MayGoOn c.args.pass.now.view c.cursor_ahead-now.new.pass.view c.args.table.now.plan
     c.number-number.result c.args.line c.args.act.now c.args.root c.record_words-words.result =
-    next_goes_on c.args.pass.now.view c.stands_next-now.new.pass.view _ c.args.table.now.plan
+    next_goes_on c.args.pass.now.view c.cursor_ahead-now.new.pass.view _ c.args.table.now.plan
     c.number-number.result c.args.line c.args.at c.args.act.now c.args.root
-    c.record_words-words.result c.stands_next-now.result.now c.stands_next-now.result.last
-    r.turn.sees.turn c.stands_next-now.ensures.learns refl r.at r.room r.turn.of.plan
+    c.record_words-words.result c.cursor_ahead-now.result.now c.cursor_ahead-now.result.last
+    r.turn.sees.turn c.cursor_ahead-now.ensures.learns refl r.at r.room r.turn.of.plan
     c.number-number.ensures r.may.fits r.may.target c.tell_numbers.ensures c.ranges.line.fits r.may.made
-    c.stands_next-now.ensures.stands.next c.record_words-words.ensures
+    c.cursor_ahead-now.ensures.stands.next c.record_words-words.ensures
     in
     let w : SeatView = log_left c.log_append_on.new.pass.view in
     appends_fewer c.args.pass.now.view w c.args.line c.args.act.now c.args.root
@@ -72,15 +72,15 @@ returns-clause-fewer c =
 pub returns-clause-met_nobody : goal.returns-clause-met_nobody
 returns-clause-met_nobody c =
     let r = c.requires in
-    let m : MayGoOn c.args.pass.now.view c.stands_next-now.new.pass.view c.args.table.now.plan
+    let m : MayGoOn c.args.pass.now.view c.cursor_ahead-now.new.pass.view c.args.table.now.plan
     c.number-number.result c.args.line c.args.act.now c.args.root c.record_words-words.result =
-    next_goes_on c.args.pass.now.view c.stands_next-now.new.pass.view _ c.args.table.now.plan
+    next_goes_on c.args.pass.now.view c.cursor_ahead-now.new.pass.view _ c.args.table.now.plan
     c.number-number.result c.args.line c.args.at c.args.act.now c.args.root
-    c.record_words-words.result c.stands_next-now.result.now c.stands_next-now.result.last
-    r.turn.sees.turn c.stands_next-now.ensures.learns refl r.at r.room r.turn.of.plan
+    c.record_words-words.result c.cursor_ahead-now.result.now c.cursor_ahead-now.result.last
+    r.turn.sees.turn c.cursor_ahead-now.ensures.learns refl r.at r.room r.turn.of.plan
     c.number-number.ensures r.may.fits r.may.target c.tell_numbers.ensures c.ranges.line.fits r.may.made
-    c.stands_next-now.ensures.stands.next c.record_words-words.ensures
+    c.cursor_ahead-now.ensures.stands.next c.record_words-words.ensures
     in
     append_meets _ _ _ _ _ _ _ _ m (log_left c.log_append_on.new.pass.view)
     c.log_append_on.ensures.appended
-    ∙ ap (λ (x : SeatView). x.log.busy) c.stands_next-now.ensures.learns.is
+    ∙ ap (λ (x : SeatView). x.log.busy) c.cursor_ahead-now.ensures.learns.is

@@ -1,8 +1,8 @@
 use Rattle.std.proofs.Common.{rules, ◌≡◌, ◌<◌, [], ◌∷◌, arith, ◌∙◌, ap}
 use Rattle.table_rule.specs.Views.{SeatView}
-use Rattle.version_log.specs.Seeing.{LooksOn}
+use Rattle.version_log.specs.Seeing.{OnlyReadsLog}
 use Rattle.version_log.proofs.ForgetLaws.{looked_open, looked_held, looked_number, looked_turn, forgets, forgets_idle}
-use Rattle.node_table.specs.Seen.{PassSeen}
+use Rattle.node_table.specs.TableStates.{PassState}
 use Rattle.version_log.proofs.LookLaws.{learns_same, begun_looks, left_on, looks_on, mark_looks}
 use Rattle.version_log.proofs.forgets.forget.Goals as goal
 
@@ -11,11 +11,11 @@ returns-in-Some-clause-looks g c =
     let v : SeatView = c.args.pass.now.view in
     let w : SeatView = c.log_length-at.new.pass.view in
     let m : SeatView = c.log_mark.new.pass.view in
-    let first : LooksOn v w =
+    let first : OnlyReadsLog v w =
     begun_looks v _ w c.take_log.ensures.takes
-    (learns_same _ _ (ap (λ (s : PassSeen). s.view) c.log_length-at.ensures.same))
+    (learns_same _ _ (ap (λ (s : PassState). s.view) c.log_length-at.ensures.same))
     in
-    let next : LooksOn w m = mark_looks w c.args.v c.in-Some.mark m c.in-Some.ensures.looks in
+    let next : OnlyReadsLog w m = mark_looks w c.args.v c.in-Some.mark m c.in-Some.ensures.looks in
     left_on v m _ (looks_on v w m first next) (search rules)
 
 pub returns-clause-forgets : goal.returns-clause-forgets
@@ -25,8 +25,8 @@ returns-clause-forgets g c =
     let u : SeatView = c.log_length-at.new.pass.view in
     let m : SeatView = c.log_mark.new.pass.view in
     let b = c.in_default.ensures.looks in
-    let same = learns_same _ _ (ap (λ (s : PassSeen). s.view) c.log_length-at.ensures.same) in
-    let looks : LooksOn v m = looked_open v _ u m c.args.v c.take_log.ensures.takes same b in
+    let same = learns_same _ _ (ap (λ (s : PassState). s.view) c.log_length-at.ensures.same) in
+    let looks : OnlyReadsLog v m = looked_open v _ u m c.args.v c.take_log.ensures.takes same b in
     let number : m.numbers ≡ c.number-number.result ∷ [] =
     looks.session.numbers ∙ c.number-number.ensures
     in
@@ -43,8 +43,8 @@ returns-clause-free g c =
     let u : SeatView = c.log_length-at.new.pass.view in
     let m : SeatView = c.log_mark.new.pass.view in
     let b = c.in_default.ensures.looks in
-    let same = learns_same _ _ (ap (λ (s : PassSeen). s.view) c.log_length-at.ensures.same) in
-    let looks : LooksOn v m = looked_open v _ u m c.args.v c.take_log.ensures.takes same b in
+    let same = learns_same _ _ (ap (λ (s : PassState). s.view) c.log_length-at.ensures.same) in
+    let looks : OnlyReadsLog v m = looked_open v _ u m c.args.v c.take_log.ensures.takes same b in
     let number : m.numbers ≡ c.number-number.result ∷ [] =
     looks.session.numbers ∙ c.number-number.ensures
     in
@@ -62,17 +62,17 @@ returns-clause-free g c =
 pub returns-then-v-at-clause-looks : goal.returns-then-v-at-clause-looks
 returns-then-v-at-clause-looks g c =
     let w : SeatView = c.log_length-at.new.pass.view in
-    let first : LooksOn c.args.pass.now.view w =
+    let first : OnlyReadsLog c.args.pass.now.view w =
     begun_looks c.args.pass.now.view _ w c.take_log.ensures.takes
-    (learns_same _ _ (ap (λ (s : PassSeen). s.view) c.log_length-at.ensures.same))
+    (learns_same _ _ (ap (λ (s : PassState). s.view) c.log_length-at.ensures.same))
     in
     left_on c.args.pass.now.view w _ first (search rules)
 
 pub returns-then-v-at-2-clause-looks : goal.returns-then-v-at-2-clause-looks
 returns-then-v-at-2-clause-looks g c =
     let w : SeatView = c.log_length-at.new.pass.view in
-    let first : LooksOn c.args.pass.now.view w =
+    let first : OnlyReadsLog c.args.pass.now.view w =
     begun_looks c.args.pass.now.view _ w c.take_log.ensures.takes
-    (learns_same _ _ (ap (λ (s : PassSeen). s.view) c.log_length-at.ensures.same))
+    (learns_same _ _ (ap (λ (s : PassState). s.view) c.log_length-at.ensures.same))
     in
     left_on c.args.pass.now.view w _ first (search rules)

@@ -1,7 +1,7 @@
 use Rattle.std.proofs.Common.{ℕ, subst, ◌-◌, ◌+◌, ◌*◌, ◌∙◌, sym, ap, arith, Err}
 use Rattle.std.proofs.lemmas.Grind.{common_steps}
-use Rattle.vox_scene.specs.Turnings.{posed}
-use Rattle.vox_scene.specs.Walking.{visits, walked, AnswersWalk, turning_or}
+use Rattle.vox_scene.specs.Rotations.{posed}
+use Rattle.vox_scene.specs.Walking.{visits, walked, AnswersWalk, rotation_or_identity}
 use Rattle.vox_scene.proofs.Visiting.{no_node_there, node_too_deep, node_refused, mover_entered, group_entered, shape_entered, walks_along, enter_refused, child_walked, child_refused, children_done}
 use Rattle.vox_scene.proofs.Within.{within_more}
 use Rattle.vox_scene.proofs.walking.+walk.Goals as goal
@@ -49,12 +49,12 @@ visit-returns-in-Moves t c = λ list finds.
     (mover_entered list c.args.models c.args.room (c.args.room - 1) c.args.walk.now c.enter.new.walk
     c.args.pose.now c.args.id c.in-Some.kind.now (omega arith)
     (sym (finds.each c.args.id) ∙ sym c.in-Some.ensures.value) c.in_default-enter.ensures
-    c.in-Moves.child c.in-Moves.turning c.in-Moves.shift c.of_child-inner.result c.in-Moves.is
+    c.in-Moves.child c.in-Moves.axis_map c.in-Moves.shift c.of_child-inner.result c.in-Moves.is
     (c.of_child-inner.ensures.value
-    ∙ ap (λ r. posed c.args.pose.now r c.vector_or-vector.result) c.turning_or-turning.ensures
+    ∙ ap (λ r. posed c.args.pose.now r c.vector_or-vector.result) c.rotation_or_identity-axis_map.ensures
     ∙ ap
     (λ v. posed c.args.pose.now
-    (turning_or c.in-Moves.turning) v) c.vector_or-vector.ensures.value))
+    (rotation_or_identity c.in-Moves.axis_map) v) c.vector_or-vector.ensures.value))
     (c.visit.ensures list finds)
 
 pub visit-returns-in-Groups : goal.visit-returns-in-Groups

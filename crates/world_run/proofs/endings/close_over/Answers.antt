@@ -1,7 +1,7 @@
 use Rattle.std.proofs.Common.{List, ap, arith, subst}
 use Rattle.node_words.specs.Plans.{Layout}
 use Rattle.conformance.specs.sessions.Ran.{ClosesWorld}
-use Rattle.conformance.specs.sessions.Seen.{SessionSeen}
+use Rattle.conformance.specs.sessions.SessionViews.{SessionView}
 use Rattle.world_run.specs.Open.{saved_seen}
 use Rattle.world_run.proofs.EndLaws.{ran_ends, ran_numbers, ran_or_had, ran_roots}
 use Rattle.world_run.proofs.endings.close_over.Goals as goal
@@ -35,6 +35,6 @@ pub returns-in-Ok-clause-refused : goal.returns-in-Ok-clause-refused
 returns-in-Ok-clause-refused g c =
     ran_or_had c.args.world.table.plan c.args.world.table.models c.args.world.tint
     (saved_seen c.args.sessions.items) c.in-Ok.ended.history
-    (subst (λ (ss : List SessionSeen). ClosesWorld c.args.world.tint c.args.world.table.plan
+    (subst (λ (ss : List SessionView). ClosesWorld c.args.world.tint c.args.world.table.plan
     c.args.world.table.models ss c.in-Ok.ended.history) c.unpin_all-sessions.ensures.seen
     c.in-Ok.ensures.closes) c.told.result

@@ -1,6 +1,6 @@
 use Rattle.std.proofs.Common.{◌≡◌, [], arith}
 use Rattle.std.proofs.lemmas.List.Elements.{All-push, All-rest, All-same}
-use Rattle.node_table.specs.Seen.{PassSeen}
+use Rattle.node_table.specs.TableStates.{PassState}
 use Rattle.session.specs.Resting.{IsAtRest}
 use Rattle.world_run.specs.Open.{IsSaved}
 use Rattle.world_run.proofs.EndLaws.{first_of, seen_more}
@@ -27,8 +27,8 @@ loop-saved-preserved g c =
           All-same (IsAtRest c.args.world.now.table) _ _ c.push_reserved.ensures.items
           (All-push (IsAtRest c.args.world.now.table) c.loop-saved.spare.items c.unpin_one-session.result c.loop-saved.invariant.rest c.unpin_one-session.ensures.rest);
       spare =
-          All-same (λ (s : PassSeen). s.view.held ≡ []) _ _ c.push_reserved.ensures.items
-          (All-push (λ (s : PassSeen). s.view.held
+          All-same (λ (s : PassState). s.view.held ≡ []) _ _ c.push_reserved.ensures.items
+          (All-push (λ (s : PassState). s.view.held
           ≡ []) c.loop-saved.spare.items c.unpin_one-session.result c.loop-saved.invariant.spare c.unpin_one-session.ensures.none);
       seen = seen_more c.loop-saved.spare.items c.push_reserved.new.self.items c.unpin_one-session.result _ _ c.in-Some.saved _ c.push_reserved.ensures.items c.in-Some.ensures.items c.unpin_one-session.ensures.seen
           c.loop-saved.invariant.seen;

@@ -1,7 +1,7 @@
 use Rattle.std.proofs.Common.{◌∙◌, List, ap, arith, length}
 use Rattle.std.proofs.lemmas.List.{take_all}
 use Rattle.world_run.specs.declared.open_runs.SavedSession.{SavedSession}
-use Rattle.world_run.specs.Open.{kept_in}
+use Rattle.world_run.specs.Open.{logged_in}
 use Rattle.world_run.proofs.KeptLaws.{number_first}
 use Rattle.world_run.proofs.open_runs.number_kept.Goals as goal
 
@@ -19,5 +19,5 @@ loop-s-preserved c =
 pub returns : goal.returns
 returns c =
     c.loop-s.invariant.is
-    ∙ ap (λ (zs : List SavedSession). length (kept_in zs))
+    ∙ ap (λ (zs : List SavedSession). length (logged_in zs))
     (take_all c.loop-s.s-index c.args.sessions.now c.loop-s-test.false)

@@ -1,7 +1,7 @@
 use Rattle.std.proofs.Common.{◌≡◌, List, [], ap, arith, length, refl, vec_len}
 use Rattle.std.proofs.lemmas.List.{drop_all}
 use Rattle.world_run.specs.declared.open_runs.SavedSession.{SavedSession}
-use Rattle.world_run.specs.Open.{kept_in}
+use Rattle.world_run.specs.Open.{logged_in}
 use Rattle.world_run.proofs.KeptLaws.{has_save, number_first, number_left}
 use Rattle.world_run.proofs.open_runs.place_of.Goals as goal
 
@@ -11,9 +11,9 @@ loop-at-init c = record { is = omega arith; inside = c.requires }
 pub unreachable-requires : goal.unreachable-requires
 unreachable-requires c =
     let none =
-    ap (λ (zs : List SavedSession). length (kept_in zs))
+    ap (λ (zs : List SavedSession). length (logged_in zs))
     (drop_all c.loop-at.at c.args.sessions.now c.loop-at-test.false) in
-    let nothing : length (kept_in []) ≡ 0 = refl in
+    let nothing : length (logged_in []) ≡ 0 = refl in
     let inside = c.loop-at.invariant.inside in
     absurd (omega arith)
 

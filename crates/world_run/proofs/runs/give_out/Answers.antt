@@ -4,7 +4,7 @@ use Rattle.node_table.specs.Begins.{terms_of}
 use Rattle.script.specs.Fitting.{RisesFrom}
 use Rattle.script.specs.declared.commands.ScriptLine.{ScriptLine}
 use Rattle.session.specs.Resting.{IsAtRest}
-use Rattle.session.specs.Seen.{AreLinesOfWorld}
+use Rattle.session.specs.SessionWorlds.{AreLinesOfWorld}
 use Rattle.world_run.proofs.EndLaws.{first_of}
 use Rattle.world_run.proofs.Working.{is_work, new_here, new_later, rooms_left, works_next}
 use Rattle.world_run.proofs.runs.give_out.Goals as goal

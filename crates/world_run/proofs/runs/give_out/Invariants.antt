@@ -3,7 +3,7 @@ use Rattle.std.specs.List.{AllZip, slice_get}
 use Rattle.std.specs.Prelude.{All}
 use Rattle.std.specs.Vec.Iter.{into_iter_items}
 use Rattle.node_table.specs.Begins.{IsNewPass, terms_of}
-use Rattle.node_table.specs.Seen.{PassSeen}
+use Rattle.node_table.specs.TableStates.{PassState}
 use Rattle.session.specs.Resting.{IsAtRest}
 use Rattle.world_run.specs.Works.{AreWorks, IsRoomFor}
 use Rattle.world_run.proofs.runs.give_out.Given as goal
@@ -11,7 +11,7 @@ use Rattle.world_run.proofs.runs.give_out.Given as goal
 abbrev pub invariant-loop-script : goal.invariant-loop-script
 invariant-loop-script l = record {
   works : AreWorks l.world 0 (take l.script-index l.scripts) l.works.items;
-  new : (k : ℕ) (s : PassSeen) → slice_get (into_iter_items l.sessions) k ≡ Some s
+  new : (k : ℕ) (s : PassState) → slice_get (into_iter_items l.sessions) k ≡ Some s
       → IsNewPass l.world.table.id (terms_of l.world.table) (l.script-index + k) s;
   rest : All (IsAtRest l.world.table) (into_iter_items l.sessions);
   many : l.script-index + length (into_iter_items l.sessions) ≡ length l.scripts;

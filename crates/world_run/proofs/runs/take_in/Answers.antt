@@ -1,5 +1,5 @@
 use Rattle.std.proofs.Common.{◌∙◌, ap, arith, length, refl, subst, sym}
-use Rattle.session.specs.Seen.{AreLinesOfWorld}
+use Rattle.session.specs.SessionWorlds.{AreLinesOfWorld}
 use Rattle.world_run.proofs.Working.{done_left, is_saved, many_answered, next_taken, saves_taken}
 use Rattle.world_run.proofs.runs.take_in.Goals as goal
 

@@ -1,7 +1,7 @@
 use Rattle.std.proofs.Common.{◌^◌, rules, subst}
 use Rattle.script.specs.declared.commands.Command.{Command}
 use Rattle.script.specs.Fitting.{CommandFits}
-use Rattle.conformance.specs.sessions.Told.{AskTold}
+use Rattle.conformance.specs.sessions.CallSpecs.{AskSpec}
 use Rattle.conformance.proofs.OfSessions.Answering.{line_is, tried_is, act_takes, once_takes, ask_takes, save_takes, forget_takes, same_takes, head_takes}
 use Rattle.conformance.proofs.sessions.lines.answer_line.Goals as goal
 
@@ -35,7 +35,7 @@ returns-in-Ask-clause-takes g c =
     let of = g.C.SessionCalls.of c.args.calls.now in
     let old = g.C.SessionCalls.seen c.args.calls.now in
     let new = g.C.SessionCalls.seen c.ask-answer.new.self in
-    let told : AskTold of c.in-Ask.version c.in-Ask.question old new c.ask-answer.result =
+    let told : AskSpec of c.in-Ask.version c.in-Ask.question old new c.ask-answer.result =
     search rules in
     line_is of old new c.args.l _ _ _ c.in-Ask.is c.ask_line.ensures
     (ask_takes of old new c.ask-answer.ensures.knows c.args.l.line c.in-Ask.version c.in-Ask.question

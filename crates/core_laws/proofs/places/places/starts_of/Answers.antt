@@ -1,5 +1,5 @@
 use Rattle.std.proofs.Common.{◌≤◌, ℕ, ◌+◌, ◌*◌, List, get_or, refl, arith}
-use Rattle.core_laws.specs.places.Spots.{first_bucket, key_words, whole_lines}
+use Rattle.core_laws.specs.places.WordIds.{first_bucket, key_words, whole_lines}
 use Rattle.core_laws.proofs.OfPlaces.Lines.{level_small}
 use Rattle.core_laws.proofs.OfPlaces.Prefixes.{ends_none, ends_more, ends_small}
 use Rattle.core_laws.proofs.places.places.starts_of.Goals as goal

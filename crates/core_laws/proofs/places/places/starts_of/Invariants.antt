@@ -1,5 +1,5 @@
 use Rattle.std.proofs.Common.{◌+◌, ◌*◌, get_or}
-use Rattle.core_laws.specs.places.Spots.{first_bucket, key_words, whole_lines}
+use Rattle.core_laws.specs.places.WordIds.{first_bucket, key_words, whole_lines}
 use Rattle.core_laws.proofs.OfPlaces.Prefixes.{EndsTo}
 use Rattle.core_laws.proofs.places.places.starts_of.Given as goal
 

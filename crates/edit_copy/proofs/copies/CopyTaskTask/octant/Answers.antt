@@ -2,7 +2,7 @@ use Rattle.std.proofs.Common.{arith, suc, ◌-◌, ◌≡◌, ◌<◌, subst, sy
 use Rattle.vw_cell.specs.declared.cells.Cell.{Cell}
 use Rattle.vw_cell.specs.declared.boxes.Boxed.{Boxed}
 use Rattle.vw_cell.specs.Places.{block_side}
-use Rattle.node_words.specs.Held.{Seen, name_in}
+use Rattle.node_words.specs.Held.{StoreState, name_in}
 use Rattle.node_words.specs.descent.Parts.{part_in}
 use Rattle.node_words.specs.contents.CellShapes.{octant_cells}
 use Rattle.edit_walk.proofs.OfCells.PaintLaws.{old_block, old_has}
@@ -23,7 +23,7 @@ pub sources_in-sources-requires-clause-sources : goal.sources_in-sources-require
 sources_in-sources-requires-clause-sources g c =
     let (base, cells, keeps, m) = c.requires.task in (
       m.row,
-      subst (λ (s : Seen). AreBlocks s.held c.args.level c.args.self.now.sources m.row)
+      subst (λ (s : StoreState). AreBlocks s.held c.args.level c.args.self.now.sources m.row)
           (sym c.kept_old-old.ensures.seen)
           (record {
             each = λ i l. old_block base _ c.args.level (m.row i) _ keeps
@@ -49,7 +49,7 @@ returns-clause-task g c base cells keeps m =
     c.part_of-part.ensures.part
     ∙ ap (λ (h : ℕ). part_in h c.args.self.now.part k) c.half_side-half.ensures.half in
     let rows =
-    subst (λ (s : Seen). AreBlocks s.held c.args.level c.args.self.now.sources m.row)
+    subst (λ (s : StoreState). AreBlocks s.held c.args.level c.args.self.now.sources m.row)
     (sym c.kept_old-old.ensures.seen)
     (record {
       each = λ i l. old_block base _ c.args.level (m.row i) _ keeps

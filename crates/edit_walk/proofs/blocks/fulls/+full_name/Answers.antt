@@ -1,6 +1,6 @@
 use Rattle.std.proofs.Common.{sym, ◌∙◌, arith, subst}
 use Rattle.node_words.specs.shapes.Tree.{child_of}
-use Rattle.node_words.specs.Held.{Seen}
+use Rattle.node_words.specs.Held.{StoreState}
 use Rattle.edit_walk.specs.blocks.Blocks.{IsFullBlock}
 use Rattle.edit_walk.proofs.OfBlocks.AsideLaws.{full_next, full_below, full_child_there}
 use Rattle.edit_walk.proofs.blocks.fulls.+full_name.Goals as goal
@@ -36,4 +36,4 @@ returns-clause-full g t c u f =
     let (v, h) =
     c.full_name.ensures.full (child_of u 0)
     (full_next _ _ u _ _ c.in-Some.ensures.seen f (omega arith) e) in
-    (v, subst (λ (s : Seen). IsFullBlock s.held v c.full_name.result) c.in-Some.ensures.seen h)
+    (v, subst (λ (s : StoreState). IsFullBlock s.held v c.full_name.result) c.in-Some.ensures.seen h)

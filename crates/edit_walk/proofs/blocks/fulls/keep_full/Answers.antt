@@ -1,5 +1,5 @@
 use Rattle.std.proofs.Common.{sym, ◌∙◌, subst, Some, ap}
-use Rattle.node_words.specs.Held.{Seen}
+use Rattle.node_words.specs.Held.{StoreState}
 use Rattle.edit_walk.specs.blocks.Blocks.{IsFullBlock}
 use Rattle.edit_walk.proofs.OfBlocks.AsideLaws.{aside_full, full_reaches, keep_came}
 use Rattle.edit_walk.proofs.blocks.fulls.keep_full.Goals as goal
@@ -16,7 +16,7 @@ keep_at-requires-clause-reached g c =
     c.full_name-n.ensures.full a.tree
     (aside_full _ rest _ c.name.result (c.in-Some.is ∙ ap Some (sym c.name.ensures)) a) in
     full_reaches _ u _
-    (subst (λ (s : Seen). IsFullBlock s.held u c.full_name-n.result)
+    (subst (λ (s : StoreState). IsFullBlock s.held u c.full_name-n.result)
     (sym c.full_name-n.ensures.seen) f)
 
 pub returns-clause-came : goal.returns-clause-came
@@ -25,7 +25,7 @@ returns-clause-came g c rest a =
     c.full_name-n.ensures.full a.tree
     (aside_full _ rest _ c.name.result (c.in-Some.is ∙ ap Some (sym c.name.ensures)) a) in
     let h =
-    subst (λ (s : Seen). IsFullBlock s.held u c.full_name-n.result)
+    subst (λ (s : StoreState). IsFullBlock s.held u c.full_name-n.result)
     (sym c.full_name-n.ensures.seen) f in
     keep_came (g.N.Blocks.seen c.args.store.now) (g.N.Blocks.seen c.full_name-n.new.store)
     (g.N.Blocks.seen c.keep_at.new.self) rest _ c.args.level u c.full_name-n.result c.keep_at.result c.full_name-n.ensures.seen a h c.full_name-n.ensures.level c.keep_at.ensures.name

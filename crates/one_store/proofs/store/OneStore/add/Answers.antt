@@ -9,8 +9,8 @@ use Rattle.one_store.specs.Steps.{IsSoughtKey, sought_key}
 use Rattle.one_store.proofs.AddLaws.{add_store, full_store, row_count}
 use Rattle.one_store.proofs.store.OneStore.add.Goals as goal
 
-pub tell_entry-requires : goal.tell_entry-requires
-tell_entry-requires c =
+pub note_entry-requires : goal.note_entry-requires
+note_entry-requires c =
     entered-notes _ _ _ _
     (subst (λ (v : Known). HoldsRow v.told.held
     (trees_below (key_in v.words) (c.args.sought.now.level - 1)
@@ -38,10 +38,10 @@ invariant_of-self c =
     (trees_below (key_in v.words) (s.level - 1) (sought_key s))) e c.requires.held in
     add_store _ _ s
     (named s.level s.bucket c.in-Some.slot) _ c.args.children c.self.invariant q missing holds c.requires.children
-    (record { name_is = refl; lowest = c.in-Some.ensures.lowest; words = c.open.ensures; roots = refl; told = c.tell_entry.ensures })
+    (record { name_is = refl; lowest = c.in-Some.ensures.lowest; words = c.open.ensures; roots = refl; told = c.note_entry.ensures })
 
-pub tell_full-requires : goal.tell_full-requires
-tell_full-requires c = full-notes _ _
+pub note_full-requires : goal.note_full-requires
+note_full-requires c = full-notes _ _
 
 pub invariant_of-self-in-None : goal.invariant_of-self-in-None
 invariant_of-self-in-None c =
@@ -49,4 +49,4 @@ invariant_of-self-in-None c =
     let s = c.args.sought.now in
     let q = subst (λ (v : Known). IsSoughtKey v.words.plan s) e c.requires.sought in
     full_store _ _ s _ c.self.invariant q
-    (record { words = refl; roots = refl; full = c.in-None.ensures.full refl; told = c.tell_full.ensures })
+    (record { words = refl; roots = refl; full = c.in-None.ensures.full refl; told = c.note_full.ensures })

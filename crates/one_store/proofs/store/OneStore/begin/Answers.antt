@@ -1,7 +1,7 @@
 use Rattle.std.proofs.Common.{sym, subst, ap, ◌∙◌, ℕ, None, Option, List, length}
 use Rattle.std.proofs.lemmas.List.{length-replicate}
 use Rattle.node_words.specs.declared.shapes.names.Name.{Name}
-use Rattle.one_store.specs.notes.Told.{Told}
+use Rattle.one_store.specs.notes.StoreNotes.{StoreNotes}
 use Rattle.one_store.specs.Known.{IsStore, stored_root}
 use Rattle.one_store.proofs.AddLaws.{begun_store, no_roots}
 use Rattle.one_store.proofs.store.OneStore.begin.Goals as goal
@@ -17,7 +17,7 @@ invariant_of-result c =
     let empty =
     λ (place : ℕ). ap (λ (r : List (Option Name)). stored_root r place) e
     ∙ no_roots 65536 place in
-    subst (λ (t : Told). IsStore (record { words = w; roots = roots; told = t }) 0)
+    subst (λ (t : StoreNotes). IsStore (record { words = w; roots = roots; told = t }) 0)
     (sym c.in_ok-new.ensures)
     (begun_store w roots c.in_ok-begin.ensures.is_plan c.in_ok-begin.ensures.free long empty)
 

@@ -8,8 +8,8 @@ use Rattle.one_store.specs.Steps.{GivesRoot}
 use Rattle.one_store.proofs.RootLaws.{take_event, take_store, gives_root, with_roots}
 use Rattle.one_store.proofs.store.OneStore.empty_place.Goals as goal
 
-pub tell_gain-requires : goal.tell_gain-requires
-tell_gain-requires c = gained-notes _ _
+pub note_gain-requires : goal.note_gain-requires
+note_gain-requires c = gained-notes _ _
 
 pub overflow_add-self : goal.overflow_add-self
 overflow_add-self c =
@@ -23,7 +23,7 @@ invariant_of-self c =
     let root =
     subst (λ (v : Known). stored_root v.roots c.args.place ≡ Some c.args.n)
     (sym c.self.view_is) c.requires.root in
-    take_store _ c.tell_gain.new.notes c.args.place c.args.n _ c.self.invariant c.requires.place root c.tell_gain.ensures
+    take_store _ c.note_gain.new.notes c.args.place c.args.n _ c.self.invariant c.requires.place root c.note_gain.ensures
 
 pub returns-clause-top : goal.returns-clause-top
 returns-clause-top c =
@@ -41,8 +41,8 @@ returns-clause-gives c =
     let was : Known =
     record { words = c.self.inside.words; roots = c.self.inside.roots.items; told = c.self.inside.notes } in
     subst (λ (v : Known). GivesRoot v c.args.place
-    (with_roots was (set was.roots c.args.place None) c.tell_gain.new.notes)) c.self.view_is
-    (gives_root was c.tell_gain.new.notes c.args.place c.args.n _ c.self.invariant c.requires.place root c.tell_gain.ensures)
+    (with_roots was (set was.roots c.args.place None) c.note_gain.new.notes)) c.self.view_is
+    (gives_root was c.note_gain.new.notes c.args.place c.args.n _ c.self.invariant c.requires.place root c.note_gain.ensures)
 
 pub returns-clause-event : goal.returns-clause-event
 returns-clause-event c =
@@ -53,5 +53,5 @@ returns-clause-event c =
     record { words = c.self.inside.words; roots = c.self.inside.roots.items; told = c.self.inside.notes } in
     subst (λ (v : Known). TakesRoot v.words.plan 0 c.args.place (core_of v)
     (core_of (with_roots was
-    (set was.roots c.args.place None) c.tell_gain.new.notes))) c.self.view_is
-    (take_event was c.tell_gain.new.notes c.args.place c.args.n _ c.self.invariant c.requires.place root c.tell_gain.ensures)
+    (set was.roots c.args.place None) c.note_gain.new.notes))) c.self.view_is
+    (take_event was c.note_gain.new.notes c.args.place c.args.n _ c.self.invariant c.requires.place root c.note_gain.ensures)

@@ -9,8 +9,8 @@ use Rattle.one_store.proofs.StateLaws.{key_few}
 use Rattle.one_store.proofs.StoreLaws.{free_store, held_name, held_tree}
 use Rattle.one_store.proofs.store.OneStore.free.Goals as goal
 
-pub tell_freeing-requires : goal.tell_freeing-requires
-tell_freeing-requires c =
+pub note_freeing-requires : goal.note_freeing-requires
+note_freeing-requires c =
     freed-notes _ _ _
     (held_tree _ _ c.args.n c.self.invariant
     (subst (λ (v : Known). HoldsName v.told.held c.args.n)
@@ -45,4 +45,4 @@ invariant_of-self c =
     subst (λ (v : Known). c.args.children
     ≡ children_weight (λ _. 1) (key_in v.words c.args.n)) e c.requires.children in
     free_store _ _ c.args.n _ c.args.children c.self.invariant h last count
-    (record { words = c.clear.ensures; roots = refl; told = c.tell_freeing.ensures })
+    (record { words = c.clear.ensures; roots = refl; told = c.note_freeing.ensures })

@@ -1,7 +1,7 @@
 use Rattle.std.proofs.Common.{ap, sym, subst, ◌∙◌, ◌≡◌, arith, ℕ, List, get_or}
 use Rattle.vw_cell.specs.Sums.{sum_below}
 use Rattle.node_words.specs.Plans.{Layout}
-use Rattle.core_laws.specs.places.Spots.{buckets_at}
+use Rattle.core_laws.specs.places.WordIds.{buckets_at}
 use Rattle.core_laws.specs.Blocks.{live_in, HasBlocks}
 use Rattle.one_store.specs.Known.{Known, IsStore, core_of}
 use Rattle.one_store.proofs.CountLaws.{counted_none, counted_next, live_blocks}

@@ -13,8 +13,8 @@ book-book-requires c =
     (subst (λ (v : Known). HoldsName v.told.held c.args.n)
     (sym c.self.view_is) c.requires.held)).name
 
-pub tell_loss-requires : goal.tell_loss-requires
-tell_loss-requires c =
+pub note_loss-requires : goal.note_loss-requires
+note_loss-requires c =
     lost-notes _ _
     (held_tree _ _ c.args.n c.self.invariant
     (subst (λ (v : Known). HoldsName v.told.held c.args.n)
@@ -37,5 +37,5 @@ invariant_of-self c =
           (λ (b : ℕ). SetsBook c.self.inside.words c.args.n
           (b - 1) c.set_book.new.self) c.book-book.ensures c.set_book.ensures;
       roots = refl;
-      told = c.tell_loss.ensures;
+      told = c.note_loss.ensures;
     })

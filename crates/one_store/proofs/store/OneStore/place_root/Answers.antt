@@ -9,8 +9,8 @@ use Rattle.one_store.proofs.StoreLaws.{held_tree}
 use Rattle.one_store.proofs.RootLaws.{keep_event, keep_store, keeps_root, with_roots}
 use Rattle.one_store.proofs.store.OneStore.place_root.Goals as goal
 
-pub tell_loss-requires : goal.tell_loss-requires
-tell_loss-requires c =
+pub note_loss-requires : goal.note_loss-requires
+note_loss-requires c =
     lost-notes _ _
     (held_tree _ _ c.args.n c.self.invariant
     (subst (λ (v : Known). HoldsName v.told.held c.args.n)
@@ -22,7 +22,7 @@ invariant_of-self c =
     let h = subst (λ (v : Known). HoldsName v.told.held c.args.n) e c.requires.held in
     let none = subst (λ (v : Known). stored_root v.roots c.args.place ≡ None) e c.requires.empty in
     let level = subst (λ (v : Known). c.args.n.level ≡ top v.words.plan.side) e c.requires.top in
-    keep_store _ c.tell_loss.new.notes c.args.place c.args.n _ c.self.invariant c.requires.place none h level c.tell_loss.ensures
+    keep_store _ c.note_loss.new.notes c.args.place c.args.n _ c.self.invariant c.requires.place none h level c.note_loss.ensures
 
 pub returns-clause-keeps : goal.returns-clause-keeps
 returns-clause-keeps c =
@@ -32,8 +32,8 @@ returns-clause-keeps c =
     record { words = c.self.inside.words; roots = c.self.inside.roots.items; told = c.self.inside.notes } in
     subst (λ (v : Known). KeepsRoot v c.args.place (Some c.args.n)
     (with_roots was
-    (set was.roots c.args.place (Some c.args.n)) c.tell_loss.new.notes)) c.self.view_is
-    (keeps_root was c.tell_loss.new.notes c.args.place c.args.n _ c.self.invariant c.requires.place level c.tell_loss.ensures)
+    (set was.roots c.args.place (Some c.args.n)) c.note_loss.new.notes)) c.self.view_is
+    (keeps_root was c.note_loss.new.notes c.args.place c.args.n _ c.self.invariant c.requires.place level c.note_loss.ensures)
 
 pub returns-clause-event : goal.returns-clause-event
 returns-clause-event c =
@@ -44,5 +44,5 @@ returns-clause-event c =
     record { words = c.self.inside.words; roots = c.self.inside.roots.items; told = c.self.inside.notes } in
     subst (λ (v : Known). PutsRoot v.words.plan 0 c.args.place (Some c.args.n) (core_of v)
     (core_of (with_roots was
-    (set was.roots c.args.place (Some c.args.n)) c.tell_loss.new.notes))) c.self.view_is
-    (keep_event was c.tell_loss.new.notes c.args.place c.args.n _ c.self.invariant c.requires.place none h c.tell_loss.ensures)
+    (set was.roots c.args.place (Some c.args.n)) c.note_loss.new.notes))) c.self.view_is
+    (keep_event was c.note_loss.new.notes c.args.place c.args.n _ c.self.invariant c.requires.place none h c.note_loss.ensures)

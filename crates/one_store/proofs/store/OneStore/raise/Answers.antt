@@ -6,8 +6,8 @@ use Rattle.one_store.specs.Known.{Known, core_of}
 use Rattle.one_store.proofs.StoreLaws.{raise_store, book_low}
 use Rattle.one_store.proofs.store.OneStore.raise.Goals as goal
 
-pub tell_gain-requires : goal.tell_gain-requires
-tell_gain-requires c = gained-notes _ _
+pub note_gain-requires : goal.note_gain-requires
+note_gain-requires c = gained-notes _ _
 
 pub overflow_add-book : goal.overflow_add-book
 overflow_add-book c =
@@ -27,5 +27,5 @@ invariant_of-self c =
           (λ (b : ℕ). Rattle.one_store.specs.entries.Changes.SetsBook c.self.inside.words c.args.n
           (b + 1) c.set_book.new.self) c.book-book.ensures c.set_book.ensures;
       roots = Rattle.std.proofs.Common.refl;
-      told = c.tell_gain.ensures;
+      told = c.note_gain.ensures;
     })

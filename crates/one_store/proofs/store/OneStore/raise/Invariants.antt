@@ -4,6 +4,6 @@ use Rattle.one_store.specs.entries.Words.{key_in}
 use Rattle.one_store.proofs.OfNotes.Picks.{gained}
 use Rattle.one_store.proofs.store.OneStore.raise.Given as goal
 
-abbrev pub ghosts-tell_gain : goal.ghosts-tell_gain
-ghosts-tell_gain a =
+abbrev pub ghosts-note_gain : goal.ghosts-note_gain
+ghosts-note_gain a =
     record { next = gained a.notes.now (tree_at (key_in a.words.now) a.n.level (Some a.n)) }

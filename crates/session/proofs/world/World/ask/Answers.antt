@@ -4,19 +4,19 @@ use Rattle.session.proofs.ForgetLaws.{knows_back}
 use Rattle.session.proofs.PinLaws.{pinned_tells, pinned_walk}
 use Rattle.session.proofs.world.World.ask.Goals as goal
 
-pub tell_root-answer-requires-clause-root : goal.tell_root-answer-requires-clause-root
-tell_root-answer-requires-clause-root c =
+pub answer_root-answer-requires-clause-root : goal.answer_root-answer-requires-clause-root
+answer_root-answer-requires-clause-root c =
     pinned_walk c.args.self.now.table c.args.s.now c.args.p.now _ (search rules) c.requires.rest
     c.requires.pinned
 
 pub returns-clause-tells : goal.returns-clause-tells
 returns-clause-tells c =
     pinned_tells c.args.self.now.table c.args.s.now c.args.p.now _ (search rules) c.requires.rest
-    c.requires.pinned c.args.self.now.tint c.args.question.now c.tell_root-answer.result
-    c.tell_root-answer.ensures.tells
+    c.requires.pinned c.args.self.now.tint c.args.question.now c.answer_root-answer.result
+    c.answer_root-answer.ensures.tells
 
 pub returns-clause-knows : goal.returns-clause-knows
 returns-clause-knows c =
-    knows_back c.args.self.now.table c.tell_root-answer.new.s
-    (rests_lent c.args.self.now.table c.args.self.now.table c.args.s.now c.tell_root-answer.new.s refl
-    c.requires.rest c.tell_root-answer.ensures.stays) c.tell.ensures
+    knows_back c.args.self.now.table c.answer_root-answer.new.s
+    (rests_lent c.args.self.now.table c.args.self.now.table c.args.s.now c.answer_root-answer.new.s refl
+    c.requires.rest c.answer_root-answer.ensures.read.stays) c.tell.ensures

@@ -1,11 +1,11 @@
 use Rattle.std.proofs.Common.{◌∙◌, ap, rules, sym, subst}
 use Rattle.node_table.specs.Closing.{EndsTable, HadEnough}
-use Rattle.node_table.specs.Seen.{TableSeen}
+use Rattle.node_table.specs.TableStates.{TableState}
 use Rattle.node_table.specs.declared.closed.Closed.{Closed}
 use Rattle.conformance.specs.sessions.Ran.{ClosesWorld}
-use Rattle.conformance.specs.sessions.Seen.{MayTint}
-use Rattle.session.specs.Closes.{TellsLive, coloured_as, sessions_seen}
-use Rattle.session.specs.Seen.{WorldSeen}
+use Rattle.conformance.specs.sessions.SessionViews.{MayTint}
+use Rattle.session.specs.Closes.{CountsLive, coloured_as, session_views}
+use Rattle.session.specs.SessionWorlds.{SessionWorld}
 use Rattle.session.proofs.ActLaws.{models_of}
 use Rattle.session.proofs.CloseLaws.{closes_world, ends_as, legal_left, lives_as}
 use Rattle.session.proofs.world.World.close.Goals as goal
@@ -18,20 +18,20 @@ returns-in-Ok-clause-ends c =
 
 pub returns-in-Ok-clause-live : goal.returns-in-Ok-clause-live
 returns-in-Ok-clause-live c =
-    subst (λ (e : Closed). TellsLive c.args.self.table e) (sym c.of.ensures)
+    subst (λ (e : Closed). CountsLive c.args.self.table e) (sym c.of.ensures)
     (lives_as c.self.inside.tint c.args.self.table c.in-Ok.closed
-    (subst (λ (t : TableSeen). TellsLive t c.in-Ok.closed)
-    (ap (λ (w : WorldSeen). w.table) c.self.view_is) c.in-Ok.ensures.live))
+    (subst (λ (t : TableState). CountsLive t c.in-Ok.closed)
+    (ap (λ (w : SessionWorld). w.table) c.self.view_is) c.in-Ok.ensures.live))
 
 pub returns-in-Ok-clause-closes : goal.returns-in-Ok-clause-closes
 returns-in-Ok-clause-closes c =
     let ends : EndsTable c.args.self.table c.in-Ok.closed = search rules in
     let may : MayTint c.args.self.tint c.args.self.table.plan c.args.self.table.models =
-    (models_of c.args.self _ _ _ c.self.view_is c.self.invariant).may in
+    (models_of c.args.self _ _ c.self.view_is c.self.invariant).may in
     let had : HadEnough c.args.self.table.plan c.args.sessions.items = search rules in
-    subst (λ (e : Closed). ClosesWorld c.args.self.tint c.args.self.table.plan c.args.self.table.models (sessions_seen c.args.sessions.items) e.history)
+    subst (λ (e : Closed). ClosesWorld c.args.self.tint c.args.self.table.plan c.args.self.table.models (session_views c.args.sessions.items) e.history)
     (sym (c.of.ensures
-    ∙ ap (λ (w : WorldSeen). coloured_as w.tint c.in-Ok.closed) c.self.view_is))
+    ∙ ap (λ (w : SessionWorld). coloured_as w.tint c.in-Ok.closed) c.self.view_is))
     (closes_world c.args.self.tint c.args.self.table may c.args.sessions.items
     c.in-Ok.closed.history c.requires.rest (legal_left c.args.self.table c.in-Ok.closed ends)
     c.in-Ok.ensures.history had)

@@ -1,37 +1,34 @@
-use Rattle.std.proofs.Common.{ap}
-use Rattle.hands.proofs.Rooms.{least_room}
-use Rattle.session.proofs.MakeLaws.{fails_as, maker_own_fits, maker_own_large, makes_root_as, next_walk}
-use Rattle.session.specs.Seen.{WorldSeen}
+use Rattle.std.proofs.Common.{ap, rules}
+use Rattle.std.specs.Prelude.{option_copied}
+use Rattle.act_rebuilds.specs.Acts.{MakesAct}
+use Rattle.node_table.specs.TableStates.{PassState}
+use Rattle.table_rule.specs.Views.{seen_of}
+use Rattle.session.specs.Lendable.{StaysLendable}
+use Rattle.session.proofs.LentLaws.{lent}
+use Rattle.session.proofs.MakeLaws.{left_next, makes_next, may_make}
 use Rattle.session.proofs.world.World.make_next.Goals as goal
 
-pub make_over-requires-clause-fits : goal.make_over-requires-clause-fits
-make_over-requires-clause-fits g c =
-    maker_own_fits c.args.self.now.table c.self.inside.table _ _ _
-    (ap (λ (w : WorldSeen). w.table) c.self.view_is) c.requires.maker
+pub make-requires-clause-may : goal.make-requires-clause-may
+make-requires-clause-may g c =
+    may_make c.args.self.now.table (g.M.ActMaker.drawn c.args.maker.now)
+    (g.M.ActMaker.act c.args.maker.now) c.args.s.now c.hand-hand.result.session.now c.side-side.result _ _
+    c.requires.maker.maker c.requires.ready c.requires.head.root_is c.requires.head.room
+    c.hand-hand.ensures.session (search rules)
 
-pub make_over-requires-clause-large : goal.make_over-requires-clause-large
-make_over-requires-clause-large g c =
-    maker_own_large c.args.self.now.table c.self.inside.table _ _ _
-    (ap (λ (w : WorldSeen). w.table) c.self.view_is) c.requires.maker
-
-pub make_over-requires-clause-room : goal.make_over-requires-clause-room
-make_over-requires-clause-room g c =
-    least_room (g.M.ActMaker.act c.args.maker.now) _ c.requires.room
-
-pub make_over-requires-clause-old : goal.make_over-requires-clause-old
-make_over-requires-clause-old g c =
-    next_walk c.args.self.now.table c.self.inside.table c.args.s.now _ _
-    (ap (λ (w : WorldSeen). w.table) c.self.view_is)
-    c.requires.ready c.requires.base
-
-pub returns-in-Ok-clause-root : goal.returns-in-Ok-clause-root
-returns-in-Ok-clause-root g c =
-    makes_root_as c.args.self.now.table c.self.inside.table _ _ _ c.args.s.now c.make_over.new.session
-    (ap (λ (w : WorldSeen). w.table) c.self.view_is) c.requires.maker c.requires.ready c.make_over.ensures.stays _ c.requires.base
-    c.in-Ok.root c.in-Ok.ensures.ok c.in-Ok.ensures.grows
-
-pub returns-in-Err-clause-full : goal.returns-in-Err-clause-full
-returns-in-Err-clause-full g c =
-    fails_as c.args.self.now.table c.self.inside.table _ _ _ c.args.s.now c.make_over.new.session
-    (ap (λ (w : WorldSeen). w.table) c.self.view_is) c.requires.maker c.requires.ready c.make_over.ensures.stays _ c.requires.base
-    c.in-Err.full c.in-Err.ensures.full
+pub returns-clause-made : goal.returns-clause-made
+returns-clause-made g c =
+    let stays : StaysLendable c.args.self.now.table c.args.s.now c.make.new.store.session.now =
+    search rules in
+    left_next c.args.self.now.table (g.M.ActMaker.act c.args.maker.now) c.make.result
+    c.args.s.now.view c.make.new.store.session.now.view _ (search rules)
+    (makes_next c.args.self.now.table (g.M.ActMaker.act c.args.maker.now)
+    (g.M.ActMaker.drawn c.args.maker.now) c.args.s.now c.make.new.store.session.now
+    c.requires.maker.maker c.requires.ready stays (option_copied c.args.base)
+    c.requires.head.root_is c.make.result
+    (lent (λ side old new. MakesAct old side (option_copied c.args.base)
+    (g.M.ActMaker.drawn c.args.maker.now).models (g.M.ActMaker.act c.args.maker.now)
+    c.make.result new)
+    c.args.self.now.table.plan.side c.side-side.result (seen_of c.args.s.now.view)
+    (seen_of c.hand-hand.result.session.now.view) (seen_of c.make.new.store.session.now.view) _
+    (ap (λ (s : PassState). seen_of s.view) c.hand-hand.ensures.session) (search rules)
+    (search rules) c.make.ensures.made))

@@ -10,6 +10,9 @@ returns-clause-told g c =
 
 pub edit_surely-requires-clause-maker : goal.edit_surely-requires-clause-maker
 edit_surely-requires-clause-maker g c =
-    maker_of c.args.self.now _ _ _ c.args.act.now _
-    (models_of c.args.self.now _ _ _ c.self.view_is c.self.invariant) c.requires.fits
-    c.requires.edit refl refl
+    record {
+      maker = maker_of c.args.self.now _ _ c.args.act.now _
+          (models_of c.args.self.now _ _ c.self.view_is c.self.invariant) c.requires.edit.fits
+          c.requires.edit.edit refl refl;
+      recalled = tt;
+    }

@@ -5,26 +5,26 @@ use Rattle.store_run.proofs.Filling.{edit_fills, edit_parts, way_parts}
 use Rattle.store_run.proofs.Followed.{follows_as, log_taken, replayed_as, world_as}
 use Rattle.store_run.proofs.marked.MarkedReplay.take.Goals as goal
 
-pub follow_way-requires-clause-follows : goal.follow_way-requires-clause-follows
-follow_way-requires-clause-follows g c =
+pub follow_undo-requires-clause-follows : goal.follow_undo-requires-clause-follows
+follow_undo-requires-clause-follows g c =
     follows_as c.args.self.now c.reserve.new.self c.args.next.act
     (world_as c.args.self.now c.self.inside.versions c.reserve.new.self c.self.view_is
     c.reserve.ensures.same c.reserve.ensures.log c.reserve.ensures.store) c.requires.follows
 
 pub returns-then-not-is_edit-clause-log : goal.returns-then-not-is_edit-clause-log
 returns-then-not-is_edit-clause-log g c =
-    log_taken c.args.self.now c.reserve.new.self c.follow_way.new.self c.args.next
+    log_taken c.args.self.now c.reserve.new.self c.follow_undo.new.self c.args.next
     (world_as c.args.self.now c.self.inside.versions c.reserve.new.self c.self.view_is
     c.reserve.ensures.same c.reserve.ensures.log c.reserve.ensures.store)
-    c.reserve.ensures.are c.follow_way.ensures.are c.follow_way.ensures.takes.takes
+    c.reserve.ensures.are c.follow_undo.ensures.are c.follow_undo.ensures.takes.takes
 
 pub returns-then-not-is_edit-clause-made : goal.returns-then-not-is_edit-clause-made
 returns-then-not-is_edit-clause-made g c =
-    way_parts (replayed c.args.self.now) c.reserve.new.self c.follow_way.new.self c.args.next
+    way_parts (replayed c.args.self.now) c.reserve.new.self c.follow_undo.new.self c.args.next
     (replayed_as c.args.self.now c.reserve.new.self
     (world_as c.args.self.now c.self.inside.versions c.reserve.new.self c.self.view_is
     c.reserve.ensures.same c.reserve.ensures.log c.reserve.ensures.store))
-    c.requires.made c.follow_way.ensures.takes
+    c.requires.made c.follow_undo.ensures.takes
 
 pub returns-clause-log : goal.returns-clause-log
 returns-clause-log g c =

@@ -1,7 +1,7 @@
 use Rattle.std.proofs.Common.{◌^◌, ◌↔◌, sym, subst}
 use Rattle.std.specs.Prelude.{IsTrue}
 use Rattle.history_model.specs.Moments.{world_has}
-use Rattle.core_laws.specs.contents.Versions.{IsKept, SameWorld}
+use Rattle.core_laws.specs.contents.Versions.{HoldsVersion, SameWorld}
 use Rattle.store_run.specs.Worlds.{WorldState}
 use Rattle.store_run.proofs.Opening.{same_by_roots}
 use Rattle.store_run.proofs.open_worlds.OpenWorld.same.Goals as goal
@@ -15,6 +15,6 @@ returns c =
     c.self.view_is
     (same_by_roots c.self.inside.versions c.number-number.result c.args.v c.args.w c.has_same_roots.result c.self.invariant.are
     c.number-number.ensures.store
-    (subst (λ (s : WorldState). IsKept s.log c.args.v) (sym c.self.view_is) c.requires.first)
-    (subst (λ (s : WorldState). IsKept s.log c.args.w)
+    (subst (λ (s : WorldState). HoldsVersion s.log c.args.v) (sym c.self.view_is) c.requires.first)
+    (subst (λ (s : WorldState). HoldsVersion s.log c.args.w)
     (sym c.self.view_is) c.requires.second) c.has_same_roots.ensures)

@@ -1,5 +1,5 @@
 use Rattle.std.proofs.Common.{sym, subst, length, ◌≤◌, ◌^◌, ◌↔◌, IsTrue}
-use Rattle.history_model.specs.Logs.{kept_side}
+use Rattle.history_model.specs.Logs.{side_of_world}
 use Rattle.history_model.specs.Moments.{world_tint}
 use Rattle.history_model.specs.Tints.{SameTints}
 use Rattle.store_run.specs.Replaying.{ReplayState}
@@ -9,7 +9,7 @@ use Rattle.store_run.proofs.replaying.Replay.has_same_tints.Goals as goal
 pub returns : goal.returns
 returns g c =
     subst (λ (s : ReplayState). IsTrue c.has_same_roots.result
-    ↔ SameTints (kept_side s.tint (2 ^ s.plan.side))
+    ↔ SameTints (side_of_world s.tint (2 ^ s.plan.side))
     (world_tint s.models s.records c.args.v)
     (world_tint s.models s.records c.args.w)) c.self.view_is
     (same_roots_same c.self.inside.versions c.number-number.result c.args.v c.args.w

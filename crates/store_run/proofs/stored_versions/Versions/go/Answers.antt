@@ -1,7 +1,7 @@
 use Rattle.std.proofs.Common.{arith, sym, subst, ◌∙◌}
 use Rattle.script.specs.declared.commands.Command.TheVariants.{Edit}
 use Rattle.transcript.specs.declared.answers.Answer.{Answer}
-use Rattle.store_run.specs.Answering.{GoesOnBy}
+use Rattle.store_run.specs.Answering.{ExtendsBy}
 use Rattle.store_run.proofs.Answering.{go_nowhere, go_forgotten, go_past, go_late, go_done}
 use Rattle.store_run.specs.Changing.{Changes}
 use Rattle.store_run.specs.Kept.{log_of}
@@ -11,7 +11,7 @@ use Rattle.store_run.proofs.stored_versions.Versions.go.Goals as goal
 
 pub returns-in-None-clause-goes_on : goal.returns-in-None-clause-goes_on
 returns-in-None-clause-goes_on c once =
-    subst (λ (a : Answer). GoesOnBy c.args.self.now c.args.session
+    subst (λ (a : Answer). ExtendsBy c.args.self.now c.args.session
     (record { line = c.args.line; command = Edit c.args.act once }) a c.args.self.now)
     (sym c.nothing_to_go_to.ensures)
     (go_nowhere c.args.self.now c.args.session c.args.line c.args.act once c.requires.are c.requires.other

@@ -1,6 +1,6 @@
 use Rattle.std.proofs.Common.{Option, sym, subst, arith, ◌-◌}
 use Rattle.node_words.specs.declared.shapes.names.Name.{Name}
-use Rattle.node_words.specs.Held.{Seen, HoldsName}
+use Rattle.node_words.specs.Held.{StoreState, HoldsName}
 use Rattle.testkit.specs.worlds.Roots.{HoldsOnly}
 use Rattle.testkit.proofs.OfWorlds.RootLaws.{taken_only, only_root, only_holds}
 use Rattle.testkit.proofs.worlds.worlds.ask.Goals as goal
@@ -23,5 +23,5 @@ keep_root-requires-clause-held c x e =
     let only =
     taken_only c.args.store.now t.new.self 0 c.args.side t.result
     (omega (arith, c.held.ensures.number, c.if-held-gt0.false)) t.ensures.gives t.ensures.root t.ensures.top c.requires in
-    subst (λ (s : Seen). HoldsName s.held x) (sym c.answer-found.ensures.seen)
+    subst (λ (s : StoreState). HoldsName s.held x) (sym c.answer-found.ensures.seen)
     (only_holds _ _ _ x only e)

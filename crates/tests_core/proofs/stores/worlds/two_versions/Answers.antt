@@ -1,4 +1,4 @@
-use Rattle.one_store.specs.Known.{known_seen}
+use Rattle.one_store.specs.Known.{known_state}
 use Rattle.std.proofs.Common.{◌-◌}
 use Rattle.dag_file.proofs.CanonicalLaws.{show_canonical}
 use Rattle.tests_core.proofs.OfStores.Roots.{two, two_held, two_rise, two_small}
@@ -10,7 +10,7 @@ write_dag-written-requires-clause-roots c =
 
 pub write_dag-written-requires-clause-canonical : goal.write_dag-written-requires-clause-canonical
 write_dag-written-requires-clause-canonical c =
-    show_canonical (known_seen c.args.store.now).held _ (c.args.side - 1)
+    show_canonical (known_state c.args.store.now).held _ (c.args.side - 1)
     (two c.args.root) c.held-live.ensures.trees c.held-live.ensures.canonical
     (two_held _ c.args.side c.args.root c.requires.low c.requires.root)
 

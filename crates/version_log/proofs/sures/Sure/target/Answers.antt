@@ -1,5 +1,5 @@
 use Rattle.std.proofs.Common.{◌≤◌, ℕ, Option, IfSome, subst, sym}
-use Rattle.table_rule.specs.LogTelling.{number_seen}
+use Rattle.table_rule.specs.LogFacts.{number_seen}
 use Rattle.version_log.proofs.WordLaws.{led_there}
 use Rattle.version_log.proofs.sures.Sure.target.Goals as goal
 

@@ -1,11 +1,11 @@
 use Rattle.std.proofs.Common.{sym, ◌∙◌, arith}
-use Rattle.voxdag_c.specs.held.Calls.{Refuses}
+use Rattle.voxdag_c.specs.held.Calls.{RefusesModels}
 use Rattle.voxdag_c.proofs.OfHeld.Opening.{refuses_file, some_bytes}
 use Rattle.voxdag_c.proofs.held.worlds.read_file.Goals as goal
 
 pub returns-then-file-gt-MOST_BYTES-clause-refused : goal.returns-then-file-gt-MOST_BYTES-clause-refused
 returns-then-file-gt-MOST_BYTES-clause-refused c =
-    λ side cap is. Refuses.too_long is (omega (arith, c.if-file-gt-MOST_BYTES.true))
+    RefusesModels.too_long (omega (arith, c.if-file-gt-MOST_BYTES.true))
 
 pub returns-in-Err-clause-refused : goal.returns-in-Err-clause-refused
 returns-in-Err-clause-refused c =

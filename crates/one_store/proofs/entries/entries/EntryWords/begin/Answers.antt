@@ -1,5 +1,5 @@
 use Rattle.std.proofs.Common.{◌≡◌, ◌+◌, ◌-◌, ◌*◌, ◌/◌, ◌≤◌, ◌∙◌, ℕ, List, ap, sym, subst, arith}
-use Rattle.core_laws.specs.places.Spots.{levels}
+use Rattle.core_laws.specs.places.WordIds.{levels}
 use Rattle.std.specs.Prelude.{slice_index, vec_items}
 use Rattle.std.proofs.lemmas.List.{length-map}
 use Rattle.one_store.specs.entries.Slots.{number_of_buckets, slots_at}

@@ -1,0 +1,13 @@
+pub mod Refusing
+pub mod Accepting
+pub mod Following
+pub mod Writing
+pub mod Putting
+pub mod WorldSides
+pub mod ScriptLists
+pub mod Counting
+pub mod Flooding
+pub mod Placing
+pub mod Auditing
+pub mod Dagging
+pub mod Looking

@@ -1,0 +1,16 @@
+pub mod Inputs
+pub mod Scripts
+pub mod Refusals
+pub mod Putting
+pub mod Verdicts
+pub mod Meanings
+pub mod Outcomes
+pub mod Judging
+pub mod Counts
+pub mod Floods
+pub mod Scenes
+pub mod Audits
+pub mod Dags
+pub mod Looks
+pub mod Auditing
+pub mod Unread

@@ -1,0 +1,46 @@
+-- A block and what stands beside it in each direction, and words by direction.
+use Rattle.std.specs.Prelude.{ℕ, Bool, Option, List}
+use Rattle.vw_cell.specs.declared.cells.Cell.{Cell}
+use Rattle.vw_cell.specs.declared.directions.Direction.{Direction}
+use Rattle.vw_cell.specs.declared.directions.Direction.TheVariants.{LowX, HighX, LowY, HighY, LowZ, HighZ}
+use Rattle.node_words.specs.declared.shapes.names.Name.{Name}
+use Rattle.node_words.specs.shapes.Tree.{Tree}
+use Rattle.measure.specs.Faces.{passes_exposed}
+use Rattle.measure.specs.declared.exposed_sides.ExposedSides.{ExposedSides}
+use Rattle.extract.specs.declared.bare_layers.BareLayer.{BareLayer}
+use Rattle.extract.specs.declared.bare_layers.BareLeaf.{BareLeaf}
+use Rattle.extract.specs.declared.surrounded.Surrounded.{Surrounded}
+
+-- what stands beside the block
+abbrev pub beside_of : Surrounded → Direction → Option Name
+beside_of s LowX = s.low_x
+beside_of s HighX = s.high_x
+beside_of s LowY = s.low_y
+beside_of s HighY = s.high_y
+beside_of s LowZ = s.low_z
+beside_of s HighZ = s.high_z
+
+-- the block with what stands beside it in one direction
+abbrev pub sided : Surrounded → Direction → ExposedSides
+sided s d = record { direction = d; block = s.block; beside = beside_of s d }
+
+-- the block, and what stands beside it, may be read
+pub record HasSides (held : List Tree) (level : ℕ) (s : Surrounded) : Type 0 where
+  pub each : (d : Direction) → (test : Cell → Bool) × passes_exposed held level (sided s d) test
+
+-- the words of one direction, of a layer and of a leaf
+abbrev pub words_towards : BareLayer → Direction → List ℕ
+words_towards words LowX = words.low_x
+words_towards words HighX = words.high_x
+words_towards words LowY = words.low_y
+words_towards words HighY = words.high_y
+words_towards words LowZ = words.low_z
+words_towards words HighZ = words.high_z
+
+abbrev pub leaf_towards : BareLeaf → Direction → ℕ
+leaf_towards leaf LowX = leaf.low_x
+leaf_towards leaf HighX = leaf.high_x
+leaf_towards leaf LowY = leaf.low_y
+leaf_towards leaf HighY = leaf.high_y
+leaf_towards leaf LowZ = leaf.low_z
+leaf_towards leaf HighZ = leaf.high_z

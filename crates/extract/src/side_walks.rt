@@ -1,0 +1,138 @@
+ghost use Rattle.std.specs.Prelude.{◌≡◌, ◌<◌, ◌≤◌, ℕ};
+ghost use Rattle.vw_cell.specs.declared.directions.Direction.{Direction};
+ghost use Rattle.vw_cell.specs.Places.{IsInBlock, LiesIn, octant_of};
+ghost use Rattle.node_words.specs.descent.Answers.{AreRight};
+ghost use Rattle.measure.specs.Faces.{passes_exposed};
+ghost use Rattle.measure.specs.Tallies.{IsWholeTally};
+ghost use Rattle.measure.specs.Widening.{ForCounted};
+ghost use Rattle.extract.specs.Layers.{IsLeafCorner, IsSmallLayer, leaf_corner};
+ghost use Rattle.extract.specs.Filling.{Fills, MeetsLayer};
+ghost use Rattle.extract.specs.Sides.{HasSides, sided, words_towards};
+
+use crate::bare_layers::BareLayer;
+use crate::leaves::{meets, number_at};
+use crate::surrounded::Surrounded;
+use measure::{ExposedSides, WholeBlock};
+use node_words::{Answers, Blocks, octant_name};
+use vw_cell::{Block, Boxed};
+
+/// Reads the leaves of a layer of the box that lie in a block, by the cells that are bare towards
+/// each direction. The words of others stay; those of leaves with no bare cell must be 0 already.
+#[cycle(fill_sides)]
+pub(crate) fn fill_sides<B: Blocks>(
+    store: &mut B,
+    wholes: &mut Answers<WholeBlock<ExposedSides>>,
+    subject: &Surrounded,
+    place: Block,
+    b: Boxed,
+    layer: u16,
+    words: &mut BareLayer,
+)
+    requires level { place.level ≤ 10 }
+    requires block { HasSides (B.seen store.old).held place.level subject.now }
+    requires inside { LiesIn 4096 place }
+    requires corner { IsLeafCorner place.at }
+    requires b { IsSmallLayer b }
+    requires layer { layer < 1024 }
+    requires meets { MeetsLayer place b layer }
+    requires wholes { AreRight
+        (IsWholeTally passes_exposed) (B.seen store.old).held wholes.old.places }
+    ensures fills { (d : Direction) → ForCounted passes_exposed (B.seen store.old).held
+        (sided subject.now d) place (λ cells. Fills
+        (λ m. IsInBlock place (leaf_corner b layer m)) b layer cells
+        (words_towards words.old d) (words_towards words.new d)) }
+    ensures wholes { AreRight
+        (IsWholeTally passes_exposed) (B.seen store.old).held wholes.new.places }
+    ensures seen { B.seen store.new ≡ B.seen store.old }
+    ensures rests { B.rests store.old store.new }
+{
+    if subject.block.is_none() {
+        return;
+    }
+    if place.level == 0 {
+        let leaf = subject.leaf(store);
+        let m = number_at(place, b, layer);
+        words.put(m, leaf);
+        return;
+    }
+    if subject.is_hidden(store, wholes, place.level) {
+        return;
+    }
+    fill_side_octants(store, wholes, subject, place, b, layer, words);
+}
+
+// The same, octant by octant.
+#[cycle(fill_sides)]
+fn fill_side_octants<B: Blocks>(
+    store: &mut B,
+    wholes: &mut Answers<WholeBlock<ExposedSides>>,
+    subject: &Surrounded,
+    place: Block,
+    b: Boxed,
+    layer: u16,
+    words: &mut BareLayer,
+)
+    requires level { (1 ≤ place.level) × (place.level ≤ 10) }
+    requires block { HasSides (B.seen store.old).held place.level subject.now }
+    requires inside { LiesIn 4096 place }
+    requires corner { IsLeafCorner place.at }
+    requires b { IsSmallLayer b }
+    requires layer { layer < 1024 }
+    requires wholes { AreRight
+        (IsWholeTally passes_exposed) (B.seen store.old).held wholes.old.places }
+    ensures fills { (d : Direction) → ForCounted passes_exposed (B.seen store.old).held
+        (sided subject.now d) place (λ cells. Fills
+        (λ m. IsInBlock place (leaf_corner b layer m)) b layer cells
+        (words_towards words.old d) (words_towards words.new d)) }
+    ensures wholes { AreRight
+        (IsWholeTally passes_exposed) (B.seen store.old).held wholes.new.places }
+    ensures seen { B.seen store.new ≡ B.seen store.old }
+    ensures rests { B.rests store.old store.new }
+{
+    for octant in 0..8u8 {
+        fill_side_octant(store, wholes, subject, place, octant, b, layer, words);
+    }
+}
+
+// The same of an octant, unless it has no leaf of the layer, or nothing stands in it.
+#[cycle(fill_sides)]
+fn fill_side_octant<B: Blocks>(
+    store: &mut B,
+    wholes: &mut Answers<WholeBlock<ExposedSides>>,
+    subject: &Surrounded,
+    place: Block,
+    octant: u8,
+    b: Boxed,
+    layer: u16,
+    words: &mut BareLayer,
+)
+    requires level { (1 ≤ place.level) × (place.level ≤ 10) }
+    requires block { HasSides (B.seen store.old).held place.level subject.now }
+    requires inside { LiesIn 4096 place }
+    requires corner { IsLeafCorner place.at }
+    requires octant { octant < 8 }
+    requires b { IsSmallLayer b }
+    requires layer { layer < 1024 }
+    requires wholes { AreRight
+        (IsWholeTally passes_exposed) (B.seen store.old).held wholes.old.places }
+    ensures fills { (d : Direction) → ForCounted passes_exposed (B.seen store.old).held
+        (sided subject.now d) place (λ cells. Fills
+        (λ m. IsInBlock (octant_of place octant) (leaf_corner b layer m)) b layer cells
+        (words_towards words.old d) (words_towards words.new d)) }
+    ensures block { HasSides (B.seen store.new).held place.level subject.now }
+    ensures wholes { AreRight
+        (IsWholeTally passes_exposed) (B.seen store.old).held wholes.new.places }
+    ensures seen { B.seen store.new ≡ B.seen store.old }
+    ensures rests { B.rests store.old store.new }
+{
+    let inner = place.child(octant);
+    if !meets(inner, b, layer) {
+        return;
+    }
+    let block = octant_name(store, place.level, subject.block, octant);
+    if block.is_none() {
+        return;
+    }
+    let child = subject.octant(store, place.level, octant, block);
+    fill_sides(store, wholes, &child, inner, b, layer, words);
+}

@@ -1,7 +1,0 @@
--- The transcripts before this one are read.
-use Rattle.std.proofs.Common.{take}
-use Rattle.script_files.specs.Audits.{AreTranscriptsOf}
-use Rattle.script_files.proofs.audits.read_transcripts.Given as goal
-
-abbrev pub invariant-loop-text : goal.invariant-loop-text
-invariant-loop-text l = AreTranscriptsOf (take l.text-index l.texts) l.said.items

@@ -1,6 +1,0 @@
-/// Where a history stands behind a record: the version that stands, and its last edit.
-#[derive(Clone, Copy)]
-pub struct Standing {
-    pub now: u32,
-    pub last: u32,
-}

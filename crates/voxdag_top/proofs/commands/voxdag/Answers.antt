@@ -1,4 +1,0 @@
-use Rattle.voxdag_top.proofs.commands.voxdag.Goals as goal
-
-pub returns : goal.returns
-returns g c = (c.voxdag_gated.result.ended, c.voxdag_gated.ensures)

@@ -1,5 +1,0 @@
-use Rattle.voxdag_top.proofs.Sides.{side_made}
-use Rattle.voxdag_top.proofs.words.side_with.Goals as goal
-
-pub returns : goal.returns
-returns c = side_made c.new.result c.args.n c.new.ensures.exactly c.new.ensures.value
