@@ -25,12 +25,14 @@ void *__wrap_realloc(void *old, size_t size)
 }
 
 static const voxdag_box part = {{0, 0, 0}, {8, 8, 8}};
+static const voxdag_place far = {7, 7, 7};
 
-/* Opens, fills and saves with the nth allocation failing. 0: none failed; 1: told as it should be; 2: wrong. */
+/* Opens, fills, saves and shows with the nth allocation failing. 0: none failed; 1: told as it should be; 2: wrong. */
 static int session(long n)
 {
     voxdag_world w = VOXDAG_CLOSED;
     static uint8_t out[4096];
+    static voxdag_shown seen[296];
     size_t needed = 7;
     uint64_t cells = 0;
     uint32_t newest = 7;
@@ -52,6 +54,18 @@ static int session(long n)
         if (needed != 7 || voxdag_save(&w, 1500, &part, out, sizeof out, &needed)) return 2;
     } else if (s != VOXDAG_OK) return 2;
     needed = 7;
+    s = voxdag_surface(&w, 1500, &part, seen, 296, &needed);
+    if (s == VOXDAG_NO_MEMORY) {
+        failed = 1;
+        if (needed != 7 || voxdag_surface(&w, 1500, &part, seen, 296, &needed)) return 2;
+    } else if (s != VOXDAG_OK) return 2;
+    needed = 7;
+    s = voxdag_flood(&w, 1500, &part, &far, &cells, out, sizeof out, &needed);
+    if (s == VOXDAG_NO_MEMORY) {
+        failed = 1;
+        if (cells || needed != 7 || voxdag_flood(&w, 1500, &part, &far, &cells, out, sizeof out, &needed)) return 2;
+    } else if (s != VOXDAG_OK) return 2;
+    needed = 7;
     s = voxdag_journal(&w, out, sizeof out, &needed);
     if (s == VOXDAG_NO_MEMORY) {
         failed = 1;
@@ -62,10 +76,31 @@ static int session(long n)
     return failed;
 }
 
+/* The same of a journal with a forgotten version that is gone on with. */
+static int going_on(long n)
+{
+    static const char text[] = "voxdag journal 1\nside 16\n1 0 1 fill 0 0 0 8 8 8\n2 0 2 undo\n3 0 3 redo\nmark 1 3 0 4\nend\n";
+    const voxdag_plan usual = {0, 0, 0, 0};
+    voxdag_world w = VOXDAG_CLOSED;
+    uint64_t cells = 0;
+    uint32_t line = 7;
+    left = n;
+    voxdag_status s = voxdag_open_journal(&w, &usual, NULL, 0, (const uint8_t *)text, sizeof text - 1, &line);
+    left = -1;
+    if (line != 7) return 2;
+    if (s != VOXDAG_OK) return s == VOXDAG_NO_MEMORY && voxdag_close(&w) == VOXDAG_IS_CLOSED ? 1 : 2;
+    return voxdag_count(&w, 3, &part, &cells) || cells != 512 || voxdag_close(&w) ? 2 : 0;
+}
+
 int main(void)
 {
     long n = 0, told;
     while ((told = session(n)) == 1) n++;
-    printf("memory: %ld allocations failed in turn%s\n", n, told ? ", the last one wrongly told" : "");
-    return told != 0 || n < 5;
+    if (told) printf("memory: allocation %ld is wrongly told\n", n);
+    if (told || n < 5) return 1;
+    long m = 0;
+    while ((told = going_on(m)) == 1) m++;
+    if (told) printf("memory: allocation %ld of a journal is wrongly told\n", m);
+    else printf("memory: %ld allocations failed in turn\n", n + m);
+    return told != 0 || m < 5;
 }

@@ -39,6 +39,7 @@ static int nulls(voxdag_world *w)
     uint64_t n = 7;
     size_t needed = 7;
     uint8_t out[8] = {0};
+    voxdag_shown seen[2] = {{7, 7, 7, 7, 7}, {7, 7, 7, 7, 7}};
     voxdag_place p = in;
     voxdag_box b = good;
     SAYS(VOXDAG_NULL, voxdag_open(NULL, 64));
@@ -62,8 +63,14 @@ static int nulls(voxdag_world *w)
     SAYS(VOXDAG_NULL, voxdag_same(NULL, 0, 0, &is)); SAYS(VOXDAG_NULL, voxdag_same(w, 0, 0, NULL));
     SAYS(VOXDAG_NULL, voxdag_save(NULL, 0, &b, out, 8, &needed)); SAYS(VOXDAG_NULL, voxdag_save(w, 0, NULL, out, 8, &needed));
     SAYS(VOXDAG_NULL, voxdag_save(w, 0, &b, NULL, 8, &needed)); SAYS(VOXDAG_NULL, voxdag_save(w, 0, &b, out, 8, NULL));
+    SAYS(VOXDAG_NULL, voxdag_changes(NULL, 0, 0, &is, &b)); SAYS(VOXDAG_NULL, voxdag_changes(w, 0, 0, NULL, &b)); SAYS(VOXDAG_NULL, voxdag_changes(w, 0, 0, &is, NULL));
+    SAYS(VOXDAG_NULL, voxdag_surface(NULL, 0, &b, seen, 2, &needed)); SAYS(VOXDAG_NULL, voxdag_surface(w, 0, NULL, seen, 2, &needed));
+    SAYS(VOXDAG_NULL, voxdag_surface(w, 0, &b, NULL, 2, &needed)); SAYS(VOXDAG_NULL, voxdag_surface(w, 0, &b, seen, 2, NULL));
+    SAYS(VOXDAG_NULL, voxdag_flood(NULL, 0, &b, &p, &n, out, 8, &needed)); SAYS(VOXDAG_NULL, voxdag_flood(w, 0, NULL, &p, &n, out, 8, &needed));
+    SAYS(VOXDAG_NULL, voxdag_flood(w, 0, &b, NULL, &n, out, 8, &needed)); SAYS(VOXDAG_NULL, voxdag_flood(w, 0, &b, &p, NULL, out, 8, &needed));
+    SAYS(VOXDAG_NULL, voxdag_flood(w, 0, &b, &p, &n, NULL, 8, &needed)); SAYS(VOXDAG_NULL, voxdag_flood(w, 0, &b, &p, &n, out, 8, NULL));
     SAYS(VOXDAG_NULL, voxdag_journal(NULL, out, 8, &needed)); SAYS(VOXDAG_NULL, voxdag_journal(w, NULL, 8, &needed)); SAYS(VOXDAG_NULL, voxdag_journal(w, out, 8, NULL));
-    IS(is && v == 7 && n == 7 && needed == 7);
+    IS(is && v == 7 && n == 7 && needed == 7 && b.size.x == 8 && seen[0].x == 7);
     return 0;
 }
 
@@ -75,6 +82,7 @@ static int closed(voxdag_world *w)
     uint64_t n = 7;
     size_t needed = 7;
     uint8_t out[8] = {0};
+    voxdag_shown seen[2] = {{7, 7, 7, 7, 7}, {7, 7, 7, 7, 7}};
     voxdag_place p = in, hit = in;
     voxdag_box b = good;
     SAYS(VOXDAG_IS_CLOSED, voxdag_close(w)); SAYS(VOXDAG_IS_CLOSED, voxdag_fill(w, &b)); SAYS(VOXDAG_IS_CLOSED, voxdag_erase(w, &b));
@@ -85,6 +93,9 @@ static int closed(voxdag_world *w)
     SAYS(VOXDAG_IS_CLOSED, voxdag_bounds(w, 0, &is, &b)); SAYS(VOXDAG_IS_CLOSED, voxdag_ray(w, 0, &p, 1, 0, 0, &is, &hit));
     SAYS(VOXDAG_IS_CLOSED, voxdag_same(w, 0, 0, &is)); SAYS(VOXDAG_IS_CLOSED, voxdag_save(w, 0, &b, out, 8, &needed));
     SAYS(VOXDAG_IS_CLOSED, voxdag_journal(w, out, 8, &needed));
+    SAYS(VOXDAG_IS_CLOSED, voxdag_changes(w, 0, 0, &is, &b)); SAYS(VOXDAG_IS_CLOSED, voxdag_surface(w, 0, &b, seen, 2, &needed));
+    SAYS(VOXDAG_IS_CLOSED, voxdag_flood(w, 0, &b, &p, &n, out, 8, &needed));
+    IS(seen[0].x == 7 && seen[1].sides == 7);
     IS(is && v == 7 && n == 7 && needed == 7 && hit.x == 1 && hit.z == 3 && b.size.x == 8 && p.x == 1 && !out[0]);
     return 0;
 }
@@ -96,15 +107,20 @@ static int outside(voxdag_world *w)
     uint64_t n = 7;
     size_t needed = 7;
     uint8_t out[8] = {9, 9, 9, 9, 9, 9, 9, 9};
+    voxdag_shown seen[2] = {{7, 7, 7, 7, 7}, {7, 7, 7, 7, 7}};
     voxdag_place hit = in;
+    voxdag_box least = good;
     for (size_t k = 0; k < NUMBER(bad); k++) {
         const voxdag_box *b = &bad[k];
         SAYS(VOXDAG_OUTSIDE, voxdag_fill(w, b)); SAYS(VOXDAG_OUTSIDE, voxdag_erase(w, b)); SAYS(VOXDAG_OUTSIDE, voxdag_copy(w, b, &in));
+        SAYS(VOXDAG_OUTSIDE, voxdag_surface(w, 0, b, seen, 2, &needed)); SAYS(VOXDAG_OUTSIDE, voxdag_surface(w, 7, b, seen, 2, &needed));
+        SAYS(VOXDAG_OUTSIDE, voxdag_flood(w, 0, b, &in, &n, out, 8, &needed));
         SAYS(VOXDAG_OUTSIDE, voxdag_count(w, 0, b, &n)); SAYS(VOXDAG_OUTSIDE, voxdag_faces(w, 0, b, &n)); SAYS(VOXDAG_OUTSIDE, voxdag_save(w, 0, b, out, 8, &needed));
     }
     for (size_t k = 0; k < NUMBER(far); k++) {
         const voxdag_place *p = &far[k];
         SAYS(VOXDAG_OUTSIDE, voxdag_ball(w, p, 3)); SAYS(VOXDAG_OUTSIDE, voxdag_carve(w, p, 3)); SAYS(VOXDAG_OUTSIDE, voxdag_copy(w, &good, p));
+        SAYS(VOXDAG_OUTSIDE, voxdag_flood(w, 0, &good, p, &n, out, 8, &needed));
         SAYS(VOXDAG_OUTSIDE, voxdag_get(w, 0, p, &is)); SAYS(VOXDAG_OUTSIDE, voxdag_ray(w, 0, p, 1, 0, 0, &is, &hit));
         /* Of several causes the first is answered. */
         SAYS(VOXDAG_OUTSIDE, voxdag_get(w, 7, p, &is)); SAYS(VOXDAG_OUTSIDE, voxdag_ray(w, 7, p, 0, 0, 0, &is, &hit));
@@ -123,10 +139,13 @@ static int outside(voxdag_world *w)
         uint32_t v = versions[k];
         SAYS(VOXDAG_NO_VERSION, voxdag_get(w, v, &in, &is)); SAYS(VOXDAG_NO_VERSION, voxdag_count(w, v, &good, &n)); SAYS(VOXDAG_NO_VERSION, voxdag_faces(w, v, &good, &n));
         SAYS(VOXDAG_NO_VERSION, voxdag_same(w, 0, v, &is)); SAYS(VOXDAG_NO_VERSION, voxdag_same(w, v, 0, &is)); SAYS(VOXDAG_NO_VERSION, voxdag_forget(w, v));
+        SAYS(VOXDAG_NO_VERSION, voxdag_changes(w, 0, v, &is, &least)); SAYS(VOXDAG_NO_VERSION, voxdag_changes(w, v, 0, &is, &least));
+        SAYS(VOXDAG_NO_VERSION, voxdag_flood(w, v, &good, &in, &n, out, 8, &needed));
+        SAYS(VOXDAG_NO_VERSION, voxdag_surface(w, v, &good, seen, 2, &needed));
         SAYS(VOXDAG_NO_VERSION, voxdag_save(w, v, &good, out, 8, &needed)); SAYS(VOXDAG_NO_VERSION, voxdag_ray(w, v, &in, 1, 0, 0, &is, &hit));
     }
     SAYS(VOXDAG_NOTHING_TO_UNDO, voxdag_undo(w)); SAYS(VOXDAG_NOTHING_TO_REDO, voxdag_redo(w)); SAYS(VOXDAG_IS_NEWEST, voxdag_forget(w, 0));
-    IS(is && n == 7 && needed == 7 && out[0] == 9 && out[7] == 9 && hit.x == 1 && hit.z == 3);
+    IS(is && n == 7 && needed == 7 && out[0] == 9 && out[7] == 9 && hit.x == 1 && hit.z == 3 && least.size.x == 8 && seen[1].sides == 7);
     return 0;
 }
 
@@ -143,7 +162,43 @@ static int outputs(voxdag_world *w)
     SAYS(VOXDAG_OK, voxdag_same(w, 0, 0, &is)); IS(is);
     SAYS(VOXDAG_OK, voxdag_bounds(w, 0, &some, &least)); IS(!some && least.size.x == 8);
     memset(&some, 0xa5, sizeof some);
+    SAYS(VOXDAG_OK, voxdag_changes(w, 0, 0, &some, &least)); IS(!some && least.size.x == 8);
+    memset(&some, 0xa5, sizeof some);
     SAYS(VOXDAG_OK, voxdag_ray(w, 0, &in, 1, 0, 0, &some, &hit)); IS(!some && hit.x == 1 && hit.y == 2 && hit.z == 3);
+    return 0;
+}
+
+/* Cells that can be seen, with too little room and with more than enough: of a cube of 8 cells, 296 have a bare side. */
+static int cells(voxdag_world *w, uint32_t version)
+{
+    static voxdag_shown seen[300];
+    size_t needed = 0, again = 0;
+    voxdag_box wide = {{0, 0, 0}, {64, 64, 64}}, least = {{9, 9, 9}, {9, 9, 9}};
+    bool some = false;
+    memset(seen, 7, sizeof seen);
+    SAYS(VOXDAG_TOO_SMALL, voxdag_surface(w, version, &good, NULL, 0, &needed)); IS(needed == 296);
+    SAYS(VOXDAG_TOO_SMALL, voxdag_surface(w, version, &good, seen, 295, &again)); IS(again == 296 && seen[0].tint == 7);
+    SAYS(VOXDAG_OK, voxdag_surface(w, version, &wide, seen, 300, &again)); IS(again == 296);
+    for (size_t k = 296; k < 300; k++) IS(seen[k].x == 7 && seen[k].tint == 7 && seen[k].sides == 7);
+    IS(!seen[0].x && !seen[0].y && !seen[0].z && seen[0].tint == 1 && seen[0].sides == 21);
+    IS(seen[295].x == 7 && seen[295].y == 7 && seen[295].z == 7 && seen[295].tint == 1 && seen[295].sides == 42);
+    SAYS(VOXDAG_OK, voxdag_changes(w, 0, version, &some, &least));
+    IS(some && !least.at.x && !least.at.y && !least.at.z && least.size.x == 8 && least.size.y == 8 && least.size.z == 8);
+    return 0;
+}
+
+/* A region: of a box of 10 cells a side, the 488 clear cells round a set cube of 8 in its corner; none from a set cell. */
+static int region(voxdag_world *w, uint32_t version)
+{
+    static uint8_t out[4096];
+    voxdag_box wide = {{0, 0, 0}, {10, 10, 10}};
+    voxdag_place clear = {9, 9, 9}, beside = {10, 0, 0};
+    size_t needed = 0, again = 0;
+    uint64_t n = 7;
+    SAYS(VOXDAG_OUTSIDE, voxdag_flood(w, version, &wide, &beside, &n, out, sizeof out, &needed)); IS(n == 7 && !needed);
+    SAYS(VOXDAG_TOO_SMALL, voxdag_flood(w, version, &wide, &clear, &n, NULL, 0, &needed)); IS(n == 488 && needed == 60 + 4 * 488);
+    SAYS(VOXDAG_OK, voxdag_flood(w, version, &wide, &clear, &n, out, sizeof out, &again)); IS(n == 488 && again == needed && !memcmp(out, "VOX ", 4));
+    SAYS(VOXDAG_OK, voxdag_flood(w, version, &wide, &in, &n, out, sizeof out, &again)); IS(n == 0 && again < needed);
     return 0;
 }
 
@@ -175,6 +230,96 @@ static int bytes(voxdag_world *w, uint32_t version)
     return 0;
 }
 
+/* A journal that is gone on with, and what is wrong with others: each with the status and the line that it is told by. */
+static int journals(void)
+{
+#define HEAD "voxdag journal 1\nside 64\n"
+#define ONE "1 0 1 fill 0 0 0 8 8 8\n"
+    static const struct { const char *text; uint32_t status, line; } rows[] = {
+        {HEAD "end\n", VOXDAG_OK, 77}, {HEAD ONE "end\n", VOXDAG_OK, 77},
+        {"", VOXDAG_BAD_JOURNAL, 1}, {"voxdag journal 3\n", VOXDAG_BAD_JOURNAL, 1}, {"voxdag journal 1\nside 65\nend\n", VOXDAG_BAD_JOURNAL, 2},
+        {HEAD, VOXDAG_BAD_JOURNAL, 3}, {HEAD "2 0 1 fill 0 0 0 8 8 8\nend\n", VOXDAG_BAD_JOURNAL, 3}, {HEAD ONE "end", VOXDAG_BAD_JOURNAL, 4},
+        {HEAD ONE "mark 1 1 0 2\nend\n", VOXDAG_BAD_JOURNAL, 4}, {HEAD ONE "end\n\n", VOXDAG_BAD_JOURNAL, 5},
+        {HEAD "1 0 1 undo\nend\n", VOXDAG_NOT_LEGAL, 3}, {HEAD ONE "2 0 2 redo\nend\n", VOXDAG_NOT_LEGAL, 4}, {HEAD "1 0 1 stamp 0 0 0 0\nend\n", VOXDAG_NOT_LEGAL, 3},
+        {HEAD ONE "2 0 3 undo\nmark 0 1 0 2\nend\n", VOXDAG_NOT_LEGAL, 4}, {"voxdag journal 2\nside 16\nend\n", VOXDAG_OTHER_KIND, 77},
+    };
+    const voxdag_plan usual = {0, 0, 0, 0}, caps[] = {{64, 257, 0, 0}, {64, UINT32_MAX, 0, 0}, {64, 0, 0, 1}};
+    const uint8_t *good_one = (const uint8_t *)rows[1].text;
+    const size_t length = strlen(rows[1].text);
+    uint8_t broken[] = "VOX \226\0\0\0MAIM", out[256];
+    voxdag_world w = VOXDAG_CLOSED;
+    uint32_t line = 77;
+    size_t needed = 0;
+    for (size_t k = 0; k < NUMBER(rows); k++) {
+        line = 77;
+        SAYS(rows[k].status, voxdag_open_journal(&w, &usual, NULL, 0, (const uint8_t *)rows[k].text, strlen(rows[k].text), &line)); IS(line == rows[k].line);
+        if (rows[k].status) { SAYS(VOXDAG_IS_CLOSED, voxdag_close(&w)); continue; }
+        SAYS(VOXDAG_OK, voxdag_journal(&w, out, sizeof out, &needed)); IS(needed == strlen(rows[k].text) && !memcmp(out, rows[k].text, needed));
+        SAYS(VOXDAG_OK, voxdag_close(&w));
+    }
+    line = 77;
+    for (size_t k = 0; k < NUMBER(caps); k++) SAYS(VOXDAG_BAD_PLAN, voxdag_open_as(&w, &caps[k], NULL, 0));
+    for (size_t k = 0; k < NUMBER(caps); k++) SAYS(VOXDAG_BAD_PLAN, voxdag_open_journal(&w, &caps[k], broken, 5, NULL, 0, &line));
+    SAYS(VOXDAG_BAD_FILE, voxdag_open_journal(&w, &usual, broken, 5, NULL, 0, &line));
+    SAYS(VOXDAG_NULL, voxdag_open_journal(NULL, &usual, NULL, 0, good_one, length, &line)); SAYS(VOXDAG_NULL, voxdag_open_journal(&w, NULL, NULL, 0, good_one, length, &line));
+    SAYS(VOXDAG_NULL, voxdag_open_journal(&w, &usual, NULL, 1, good_one, length, &line)); SAYS(VOXDAG_NULL, voxdag_open_journal(&w, &usual, NULL, 0, NULL, 1, &line));
+    SAYS(VOXDAG_NULL, voxdag_open_journal(&w, &usual, NULL, 0, good_one, length, NULL));
+    SAYS(VOXDAG_OK, voxdag_open(&w, 16)); SAYS(VOXDAG_IS_OPEN, voxdag_open_journal(&w, &caps[0], NULL, 0, good_one, length, &line));
+    SAYS(VOXDAG_OK, voxdag_close(&w)); IS(line == 77);
+    return 0;
+}
+
+/* A world that keeps its last two versions, and goes on with them. */
+static int keeping(void)
+{
+    const voxdag_plan two = {8, 0, 2, 0};
+#define THREE "voxdag journal 1\nside 8\n1 0 1 fill 0 0 0 8 8 8\n2 0 3 fill 0 0 0 8 8 8\n3 0 4 fill 0 0 0 8 8 8\n"
+    static const char before[] = THREE "mark 0 1 0 2\nmark 1 3 0 5\nend\n";
+    static const char after[] = THREE "4 0 6 fill 0 0 0 8 8 8\nmark 0 1 0 2\nmark 1 3 0 5\nmark 2 4 0 7\nend\n";
+    voxdag_world w = VOXDAG_CLOSED;
+    voxdag_box all = {{0, 0, 0}, {8, 8, 8}};
+    uint64_t n = 0;
+    uint32_t line = 77;
+    size_t needed = 0;
+    uint8_t out[256];
+    SAYS(VOXDAG_NULL, voxdag_open_as(NULL, &two, NULL, 0)); SAYS(VOXDAG_NULL, voxdag_open_as(&w, NULL, NULL, 0)); SAYS(VOXDAG_NULL, voxdag_open_as(&w, &two, NULL, 1));
+    SAYS(VOXDAG_OK, voxdag_open_as(&w, &two, NULL, 0)); SAYS(VOXDAG_IS_OPEN, voxdag_open_as(&w, &two, NULL, 0));
+    SAYS(VOXDAG_OK, voxdag_fill(&w, &all)); SAYS(VOXDAG_OK, voxdag_count(&w, 0, &all, &n)); IS(n == 0);
+    SAYS(VOXDAG_OK, voxdag_undo(&w)); SAYS(VOXDAG_FORGOTTEN, voxdag_count(&w, 0, &all, &n)); SAYS(VOXDAG_OK, voxdag_count(&w, 1, &all, &n)); IS(n == 512);
+    SAYS(VOXDAG_OK, voxdag_redo(&w)); SAYS(VOXDAG_FORGOTTEN, voxdag_forget(&w, 1)); SAYS(VOXDAG_FORGOTTEN, voxdag_undo(&w));
+    SAYS(VOXDAG_OK, voxdag_close(&w));
+    /* By hand, version 0 is forgotten before it falls out. */
+    SAYS(VOXDAG_OK, voxdag_open_as(&w, &two, NULL, 0)); SAYS(VOXDAG_OK, voxdag_fill(&w, &all)); SAYS(VOXDAG_OK, voxdag_forget(&w, 0));
+    SAYS(VOXDAG_OK, voxdag_fill(&w, &all)); SAYS(VOXDAG_OK, voxdag_count(&w, 1, &all, &n)); SAYS(VOXDAG_OK, voxdag_fill(&w, &all));
+    SAYS(VOXDAG_FORGOTTEN, voxdag_count(&w, 1, &all, &n));
+    SAYS(VOXDAG_OK, voxdag_journal(&w, out, sizeof out, &needed)); IS(needed == sizeof before - 1 && !memcmp(out, before, needed));
+    SAYS(VOXDAG_OK, voxdag_close(&w));
+    SAYS(VOXDAG_OK, voxdag_open_journal(&w, &two, NULL, 0, (const uint8_t *)before, sizeof before - 1, &line)); IS(line == 77);
+    SAYS(VOXDAG_OK, voxdag_count(&w, 2, &all, &n)); SAYS(VOXDAG_OK, voxdag_fill(&w, &all)); SAYS(VOXDAG_FORGOTTEN, voxdag_count(&w, 2, &all, &n));
+    SAYS(VOXDAG_OK, voxdag_journal(&w, out, sizeof out, &needed)); IS(needed == sizeof after - 1 && !memcmp(out, after, needed));
+    SAYS(VOXDAG_OK, voxdag_close(&w));
+    return 0;
+}
+
+/* The journal of the open world goes on in buckets as large, with the same bytes, and not in buckets of one node. */
+static int narrow(voxdag_world *w)
+{
+    const voxdag_plan usual = {0, 0, 0, 0}, one = {0, 1, 0, 0};
+    voxdag_world again = VOXDAG_CLOSED;
+    uint32_t line = 77;
+    size_t needed = 0, same = 0;
+    SAYS(VOXDAG_TOO_SMALL, voxdag_journal(w, NULL, 0, &needed));
+    uint8_t *text = malloc(2 * needed);
+    IS(text);
+    SAYS(VOXDAG_OK, voxdag_journal(w, text, needed, &same)); IS(same == needed);
+    SAYS(VOXDAG_STORE_FULL, voxdag_open_journal(&again, &one, NULL, 0, text, needed, &line));
+    SAYS(VOXDAG_OK, voxdag_open_journal(&again, &usual, NULL, 0, text, needed, &line)); IS(line == 77);
+    SAYS(VOXDAG_OK, voxdag_journal(&again, text + needed, needed, &same)); IS(same == needed && !memcmp(text, text + needed, needed));
+    SAYS(VOXDAG_OK, voxdag_close(&again));
+    free(text);
+    return 0;
+}
+
 int main(void)
 {
     voxdag_world w = VOXDAG_CLOSED;
@@ -190,8 +335,12 @@ int main(void)
     if (nulls(&w) || outside(&w) || outputs(&w)) return 1;
     SAYS(VOXDAG_OK, voxdag_fill(&w, &good)); SAYS(VOXDAG_OK, voxdag_count(&w, 1, &good, &n)); IS(n == 512);
     SAYS(VOXDAG_OK, voxdag_count(&w, 0, &good, &n)); IS(n == 0);
-    if (bytes(&w, 1)) return 1;
-    SAYS(VOXDAG_OK, voxdag_forget(&w, 0)); SAYS(VOXDAG_FORGOTTEN, voxdag_count(&w, 0, &good, &n)); SAYS(VOXDAG_FORGOTTEN, voxdag_undo(&w));
+    if (bytes(&w, 1) || cells(&w, 1) || region(&w, 1)) return 1;
+    bool is = true;
+    voxdag_box least = good;
+    size_t needed = 7;
+    SAYS(VOXDAG_OK, voxdag_forget(&w, 0)); SAYS(VOXDAG_FORGOTTEN, voxdag_changes(&w, 0, 1, &is, &least)); SAYS(VOXDAG_FORGOTTEN, voxdag_changes(&w, 1, 0, &is, &least));
+    SAYS(VOXDAG_FORGOTTEN, voxdag_surface(&w, 0, &good, NULL, 0, &needed)); IS(is && least.size.x == 8 && needed == 7); SAYS(VOXDAG_FORGOTTEN, voxdag_count(&w, 0, &good, &n)); SAYS(VOXDAG_FORGOTTEN, voxdag_undo(&w));
     SAYS(VOXDAG_FORGOTTEN, voxdag_forget(&w, 0)); IS(n == 0);
     SAYS(VOXDAG_OK, voxdag_close(&w));
     if (closed(&w)) return 1;
@@ -207,6 +356,15 @@ int main(void)
     IS(full);
     uint32_t newest = 0;
     SAYS(VOXDAG_OK, voxdag_newest(&w, &newest)); SAYS(VOXDAG_OK, voxdag_count(&w, newest, &good, &n)); IS(newest > 0 && n > 0);
+    SAYS(VOXDAG_OK, voxdag_close(&w));
+    if (journals() || keeping()) return 1;
+    /* As many fills in buckets of the usual size. */
+    SAYS(VOXDAG_OK, voxdag_open(&w, 64));
+    for (uint32_t k = 0; k <= newest; k++) {
+        voxdag_box b = {{k % 61, k / 61 % 61, k / 3721 % 61}, {1 + k % 3, 1 + k % 2, 1}};
+        SAYS(VOXDAG_OK, voxdag_fill(&w, &b));
+    }
+    if (narrow(&w)) return 1;
     SAYS(VOXDAG_OK, voxdag_close(&w));
     puts("refusals: all as they should be");
     return 0;

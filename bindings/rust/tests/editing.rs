@@ -51,3 +51,39 @@ fn a_world_is_edited_asked_undone_saved_and_shared() -> Result<(), Refusal> {
     assert_eq!(world.count(7, boxed(place(0, 32, 0), place(64, 1, 1)))?, 64);
     Ok(())
 }
+
+#[cfg(all(voxdag = "changes", voxdag = "surface"))]
+#[test]
+fn what_changed_and_what_can_be_seen() -> Result<(), Refusal> {
+    use voxdag::{Shown, Side};
+    let row = boxed(place(0, 0, 0), place(4, 1, 1));
+    let mut world = World::open(8, 0, &[])?;
+    assert_eq!(world.fill(row)?, 1);
+    assert_eq!(world.erase(boxed(place(1, 0, 0), place(1, 1, 1)))?, 2);
+    assert_eq!(world.changes(1, 2)?, Some(boxed(place(1, 0, 0), place(1, 1, 1))));
+    assert_eq!(world.changes(2, 2)?, None);
+    let seen = world.surface(2, row)?;
+    let cell = |x, sides| Shown { x, y: 0, z: 0, tint: 1, sides };
+    assert_eq!(seen, [cell(0, 63), cell(2, 61), cell(3, 62)]);
+    assert_eq!(seen[1].bare().filter(|&side| side == Side::Right).count(), 0);
+    assert_eq!(seen.iter().flat_map(|cell| cell.bare()).count() as u64, world.faces(2, row)?);
+    Ok(())
+}
+
+#[cfg(voxdag = "open_journal")]
+#[test]
+fn a_world_is_gone_on_with() -> Result<(), Refusal> {
+    use voxdag::Plan;
+    let cube = boxed(place(0, 0, 0), place(2, 2, 2));
+    let mut world = World::open(8, 0, &[])?;
+    world.fill(cube)?;
+    world.undo()?;
+    let journal = world.journal()?;
+    let mut later = World::open_journal(&Plan::default(), &[], &journal)?;
+    assert_eq!(later.journal()?, journal);
+    assert_eq!(later.redo()?, 3);
+    assert_eq!(later.count(3, cube)?, 8);
+    let no_journal = World::open_journal(&Plan::default(), &[], b"voxdag journal 1\nside 8\n1 0 1 undo\nend\n");
+    assert_eq!(no_journal.err(), Some(Refusal::NotLegal { line: 3 }));
+    Ok(())
+}
