@@ -1,0 +1,157 @@
+"""What the test starts on loopback and ends again: servers of the editor, members of etcd."""
+
+from __future__ import annotations
+
+import ctypes
+import json
+import os
+import shutil
+import signal
+import socket
+import subprocess
+import sys
+import time
+import urllib.error
+import urllib.request
+from pathlib import Path
+from typing import Any, Optional
+
+HERE = Path(__file__).resolve().parent.parent
+ROOT = HERE.parent.parent
+MODELS = ROOT / "models/court.vox"
+
+passed = failed = 0
+
+
+def told(name: str, is_right: bool, why: object = "") -> bool:
+    """Counts a check, and says how it went."""
+    global passed, failed
+    passed += bool(is_right)
+    failed += not is_right
+    print(f"{'passed' if is_right else 'FAILED'} {name}" + ("" if is_right else f"\n    {why}"), flush=True)
+    return bool(is_right)
+
+
+def free_port() -> int:
+    with socket.socket() as asked:
+        asked.bind(("127.0.0.1", 0))
+        return asked.getsockname()[1]
+
+
+def end_with_parent() -> None:
+    """Has the system end this process where the test that started it is killed."""
+    ctypes.CDLL(None).prctl(1, signal.SIGKILL)
+
+
+class Started:
+    """A process with an address, which is started again after it was killed."""
+
+    def __init__(self, words: list[str], log: Path) -> None:
+        self._words, self._log = words, log
+        self.process: Optional[subprocess.Popen[bytes]] = None
+
+    def start(self) -> None:
+        with open(self._log, "ab") as log:
+            self.process = subprocess.Popen(self._words, stdout=log, stderr=log, stdin=subprocess.DEVNULL, preexec_fn=end_with_parent)
+
+    def kill(self) -> None:
+        """Ends it as if its machine had failed."""
+        if self.process is not None:
+            self.process.kill()
+            self.process.wait()
+
+    def end(self) -> None:
+        if self.process is None or self.process.poll() is not None:
+            return
+        self.process.send_signal(signal.SIGTERM)
+        try:
+            self.process.wait(20)
+        except subprocess.TimeoutExpired:
+            self.kill()
+
+    def says(self) -> str:
+        return self._log.read_text(errors="replace")[-600:]
+
+
+class Editor(Started):
+    """A server of the editor."""
+
+    def __init__(self, work: Path, name: str, *options: str) -> None:
+        self.port = free_port()
+        self.url = f"http://127.0.0.1:{self.port}"
+        words = [sys.executable, str(HERE / "server.py"), "--listen", f"127.0.0.1:{self.port}", "--models", str(MODELS), *options]
+        super().__init__(words, work / f"{name}.log")
+
+    def get(self, path: str, **headers: str) -> tuple[int, bytes]:
+        asked = urllib.request.Request(self.url + path, headers=headers)
+        try:
+            with urllib.request.urlopen(asked, timeout=30) as answer:
+                return answer.status, answer.read()
+        except urllib.error.HTTPError as error:
+            return error.code, error.read()
+
+    def health(self) -> dict[str, Any]:
+        return json.loads(self.get("/health")[1])
+
+    def stands(self, seconds: float = 120) -> bool:
+        """Waits until it answers."""
+        end = time.monotonic() + seconds
+        while time.monotonic() < end and self.process is not None and self.process.poll() is None:
+            try:
+                self.health()
+                return True
+            except (OSError, ValueError):
+                time.sleep(0.05)
+        return False
+
+    def begin(self) -> None:
+        self.start()
+        if not self.stands():
+            raise RuntimeError(f"the server didn't start: {self.says()}")
+
+
+class Members:
+    """etcd of three members."""
+
+    def __init__(self, work: Path) -> None:
+        self.hosts = [f"127.0.0.1:{free_port()}" for _ in range(3)]
+        peers = [f"127.0.0.1:{free_port()}" for _ in range(3)]
+        all_of_them = ",".join(f"m{n}=http://{peer}" for n, peer in enumerate(peers))
+        self.each = []
+        for n in range(3):
+            words = [
+                shutil.which("etcd") or "etcd", "--name", f"m{n}", "--data-dir", str(work / f"etcd-{n}"),
+                "--listen-client-urls", f"http://{self.hosts[n]}", "--advertise-client-urls", f"http://{self.hosts[n]}",
+                "--listen-peer-urls", f"http://{peers[n]}", "--initial-advertise-peer-urls", f"http://{peers[n]}",
+                "--initial-cluster", all_of_them, "--initial-cluster-state", "new", "--initial-cluster-token", "editor",
+                "--heartbeat-interval", "200", "--election-timeout", "2000",
+            ]
+            self.each.append(Started(words, work / f"etcd-{n}.log"))
+
+    def start(self) -> None:
+        for member in self.each:
+            member.start()
+
+    def stands(self, seconds: float = 60) -> bool:
+        """Waits until there is a leader."""
+        end = time.monotonic() + seconds
+        while time.monotonic() < end:
+            for host in self.hosts:
+                try:
+                    with urllib.request.urlopen(f"http://{host}/health", timeout=2) as answer:
+                        if json.loads(answer.read()).get("health") in ("true", True):
+                            return True
+                except (OSError, ValueError):
+                    pass
+            time.sleep(0.2)
+        return False
+
+    def end(self) -> None:
+        for member in self.each:
+            member.kill()
+
+
+def program() -> Optional[Path]:
+    """The program voxdag, proved or before its proofs."""
+    named = [os.environ.get("VOXDAG"), ROOT / ".build/voxdag", ROOT / "crates/voxdag/out/voxdag", ROOT / ".build/tried"]
+    return next((path for path in map(Path, filter(None, named)) if path.is_file()), None)
