@@ -285,7 +285,7 @@ ROWS: dict[str, Part | Library] = {
     "one_store": Part("one_store core_laws node_words vw_cell", "kind time sum", scale=0.1, aim=1.3, more=begun, peaks={
         "a store of side 4,096 by the usual plan": ["usual"],
         "one of side 256 with 4,096 buckets of 256 a level": ["large", "plan"]}),
-    "table": Part("hands release intern node_table table_rule one_store edit_walk history_model vox_read node_words vw_cell",
+    "table": Part("session release intern node_table table_rule one_store edit_walk history_model vox_read node_words vw_cell",
                   "kind time sum", scale=0.1, aim=1.5, more=threads, peaks={"a table of side 4,096 by the usual plan": ["usual"]}),
     "log": Part("version_log release intern node_table history_model vox_read node_words vw_cell", "kind time sum", peer=None,
                 is_proved=False, more=log_calls),

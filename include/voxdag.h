@@ -20,9 +20,9 @@
  * none.
  *
  * MEMORY. A world takes all memory of its store when it is opened (docs/LIBRARY.md says how much).
- * Opening, any change, saving and the journal may answer VOXDAG_NO_MEMORY at any time, and then
- * nothing changed: that memory is there is nothing a library can promise. Closing, forgetting and
- * questions never do. No call ends the program, waits or prints. malloc, realloc and free are those
+ * Opening, any change, saving, surfaces, regions and the journal may answer VOXDAG_NO_MEMORY at any
+ * time, and then nothing changed: that memory is there is nothing a library can promise. Closing,
+ * forgetting and questions never do. No call ends the program, waits or prints. malloc, realloc and free are those
  * of the program: of one allocator, and aligned as C asks.
  *
  * THREADS. One call at a time on each world: keep it on one thread, or put a lock of your own round
@@ -60,7 +60,10 @@ enum {
     VOXDAG_NO_MODEL = 14,       /* there is no model of this number */
     VOXDAG_BAD_FILE = 15,       /* no VOX file whose models can be read, or over 2^28 bytes */
     VOXDAG_BAD_WAY = 16,        /* a ray's step isn't from -1,024 to 1,024, or all of them are 0 */
-    VOXDAG_NULL = 17            /* an argument is null */
+    VOXDAG_NULL = 17,           /* an argument is null */
+    VOXDAG_BAD_JOURNAL = 18,    /* no journal: the first line that doesn't fit is told */
+    VOXDAG_NOT_LEGAL = 19,      /* a record of the journal breaks a rule: its line is told */
+    VOXDAG_OTHER_KIND = 20      /* the journal is of a world with tints */
 };
 
 /* All bytes 0: no world is open. */
@@ -81,9 +84,24 @@ typedef struct voxdag_place { uint32_t x, y, z; } voxdag_place;
 /* A box: its least corner and its size, which is at least 1 on each axis. */
 typedef struct voxdag_box { voxdag_place at, size; } voxdag_box;
 
+/* A cell that can be seen: its place from a box's corner on, its tint (1 in a world without tints),
+ * and the sides beside which nothing is set: bits 0 to 5 for -x, +x, -y, +y, -z and +z. */
+typedef struct voxdag_shown { uint8_t x, y, z, tint, sides; } voxdag_shown;
+
+/* How a world is opened. What is 0 is as usual. */
+typedef struct voxdag_plan {
+    uint32_t side;  /* 4, 8, 16, .., 4096 */
+    uint32_t cap;   /* how many nodes a bucket of the store has room for, 1 to 256; 0: 128 */
+    uint32_t keep;  /* how many of the last versions are kept, as by `voxdag run --keep`; 0: all */
+    uint32_t tints; /* 0 */
+} voxdag_plan;
+
 /* What the library exports. These test all but null, and a bool that they are given is 0 or 1: call
  * the functions below. */
 voxdag_status voxdag_c_open(voxdag_world *w, uint32_t side, uint16_t cap, const uint8_t *file, size_t size);
+voxdag_status voxdag_c_open_as(voxdag_world *w, uint32_t side, uint16_t cap, uint32_t keep, const uint8_t *file, size_t size);
+voxdag_status voxdag_c_open_journal(voxdag_world *w, uint16_t cap, uint32_t keep, const uint8_t *file, size_t size,
+                                    const uint8_t *journal, size_t length, uint32_t *line);
 voxdag_status voxdag_c_close(voxdag_world *w);
 voxdag_status voxdag_c_fill(voxdag_world *w, const voxdag_box *part);
 voxdag_status voxdag_c_erase(voxdag_world *w, const voxdag_box *part);
@@ -105,6 +123,11 @@ voxdag_status voxdag_c_ray(voxdag_world *w, uint32_t version, const voxdag_place
 voxdag_status voxdag_c_same(voxdag_world *w, uint32_t a, uint32_t b, bool *same);
 voxdag_status voxdag_c_save(voxdag_world *w, uint32_t version, const voxdag_box *part, uint8_t *out, size_t size, size_t *needed);
 voxdag_status voxdag_c_journal(voxdag_world *w, uint8_t *out, size_t size, size_t *needed);
+voxdag_status voxdag_c_changes(voxdag_world *w, uint32_t a, uint32_t b, bool *some, voxdag_box *least);
+voxdag_status voxdag_c_surface(voxdag_world *w, uint32_t version, const voxdag_box *part, voxdag_shown *out, size_t room,
+                               size_t *needed);
+voxdag_status voxdag_c_flood(voxdag_world *w, uint32_t version, const voxdag_box *part, const voxdag_place *from,
+                             uint64_t *cells, uint8_t *out, size_t size, size_t *needed);
 
 /* ---- Opening and closing */
 
@@ -128,6 +151,41 @@ static inline voxdag_status voxdag_open_with(voxdag_world *w, uint32_t side, uin
 static inline voxdag_status voxdag_open(voxdag_world *w, uint32_t side)
 {
     return voxdag_open_with(w, side, 0, NULL, 0);
+}
+
+/* The same by a plan. With plan->keep, each change that is made forgets the version that then falls
+ * out of so many last ones, unless it is forgotten already. BAD_PLAN also where tints isn't 0. */
+static inline voxdag_status voxdag_open_as(voxdag_world *w, const voxdag_plan *plan, const uint8_t *file, size_t size)
+{
+    static const uint8_t none = 0;
+    if (!w || !plan || (!file && size)) return VOXDAG_NULL;
+    if (w->is_open) return VOXDAG_IS_OPEN;
+    if (plan->cap > 256 || plan->tints) return VOXDAG_BAD_PLAN;
+    return voxdag_c_open_as(w, plan->side, (uint16_t)plan->cap, plan->keep, file ? file : &none, size);
+}
+
+/* Opens the world that stands behind a journal, as when its last command was done: with its versions
+ * and forgotten versions, and with what can be undone and redone. voxdag_journal gives its bytes
+ * again. The side is the journal's, and plan->side isn't looked at; plan->keep counts from the next
+ * change on. file and size as above: the models that the journal stamps. A journal that `voxdag run`
+ * wrote will do as well.
+ *   IS_OPEN      exactly where w has a world already
+ *   BAD_PLAN     exactly where no bucket has this cap, or tints isn't 0
+ *   BAD_FILE     a rule of VOX files is broken, or size is over 2^28
+ *   BAD_JOURNAL  *line: the first line that doesn't fit, from 1
+ *   OTHER_KIND   the journal is of a world with tints
+ *   NOT_LEGAL    *line: that of the first record whose act leaves the world or stamps no model, or
+ *                which is an undo or a redo with no version to go to, or with a forgotten one
+ *   STORE_FULL   a bucket has no room for what a record needs
+ *   NO_MEMORY    at any other time. *line is written with BAD_JOURNAL and NOT_LEGAL alone */
+static inline voxdag_status voxdag_open_journal(voxdag_world *w, const voxdag_plan *plan, const uint8_t *file, size_t size,
+                                                const uint8_t *journal, size_t length, uint32_t *line)
+{
+    static const uint8_t none = 0;
+    if (!w || !plan || !line || (!file && size) || (!journal && length)) return VOXDAG_NULL;
+    if (w->is_open) return VOXDAG_IS_OPEN;
+    if (plan->cap > 256 || plan->tints) return VOXDAG_BAD_PLAN;
+    return voxdag_c_open_journal(w, (uint16_t)plan->cap, plan->keep, file ? file : &none, size, journal ? journal : &none, length, line);
 }
 
 /* Closes the world and gives its memory back. IS_CLOSED where there was none. */
@@ -312,7 +370,19 @@ static inline voxdag_status voxdag_same(voxdag_world *w, uint32_t a, uint32_t b,
     return status;
 }
 
-/* ---- Bytes
+/* The least box of all cells that one of two versions has and the other hasn't. *some: whether there
+ * are any; where not, *least stays. The two versions come in any order. */
+static inline voxdag_status voxdag_changes(voxdag_world *w, uint32_t a, uint32_t b, bool *some, voxdag_box *least)
+{
+    bool are = false;
+    voxdag_status status;
+    if (!w || !some || !least) return VOXDAG_NULL;
+    status = voxdag_c_changes(w, a, b, &are, least);
+    if (!status) *some = are;
+    return status;
+}
+
+/* ---- Bytes and cells
  *
  * Written at the front of `out` where `size` is enough; the bytes behind them stay. *needed is how
  * many bytes there are, with OK and with TOO_SMALL, so that a first call may come with null and size
@@ -330,8 +400,32 @@ static inline voxdag_status voxdag_save(voxdag_world *w, uint32_t version, const
     return voxdag_c_save(w, version, part, out ? out : &none, size, needed);
 }
 
-/* The text of the journal: all records and marks. All are of session 0, and each has as its line its
- * own number among the changes and forgotten versions that were accepted, from 1. */
+/* The set cells of a box of a version that have an unset cell or the world's outside beside them, by
+ * rising z, then y, then x. Here *needed and `room` count cells. The box has at most 256 on each axis
+ * (OUTSIDE where it is more). IS_CLOSED, OUTSIDE, NO_VERSION and FORGOTTEN as of questions. */
+static inline voxdag_status voxdag_surface(voxdag_world *w, uint32_t version, const voxdag_box *part, voxdag_shown *out, size_t room,
+                                           size_t *needed)
+{
+    voxdag_shown none = {0, 0, 0, 0, 0};
+    if (!w || !part || !needed || (!out && room)) return VOXDAG_NULL;
+    return voxdag_c_surface(w, version, part, out ? out : &none, room, needed);
+}
+
+/* The cells of a box of a version that ways through its clear cells join with `from`, a cell of the
+ * box: *cells is how many, with OK and with TOO_SMALL, and the VOX file has them as its one model's,
+ * of the box's size: at most 256 on each axis (OUTSIDE where it is more). None where that cell is set.
+ * IS_CLOSED, OUTSIDE, NO_VERSION and FORGOTTEN as of questions. */
+static inline voxdag_status voxdag_flood(voxdag_world *w, uint32_t version, const voxdag_box *part, const voxdag_place *from,
+                                         uint64_t *cells, uint8_t *out, size_t size, size_t *needed)
+{
+    uint8_t none = 0;
+    if (!w || !part || !from || !cells || !needed || (!out && size)) return VOXDAG_NULL;
+    return voxdag_c_flood(w, version, part, from, cells, out ? out : &none, size, needed);
+}
+
+/* The text of the journal: all records and marks. What was done by these calls is of session 0, and
+ * has as its line its own number among the changes and forgotten versions that were accepted, from 1,
+ * or from the number of those that the journal had by which the world was opened. */
 static inline voxdag_status voxdag_journal(voxdag_world *w, uint8_t *out, size_t size, size_t *needed)
 {
     uint8_t none = 0;
