@@ -44,25 +44,24 @@ one_more s t n gives =
       weight_of-one (root_tree s (stored_root s.roots n)),
     )
 
-pub none_yet : (v : Versions) (s : Known) (marks : List (Option Mark)) (count : ℕ)
-    (roots : List Rooted) → roots ≡ [] → AreToBeTaken v s marks count → AreTakenRoots v 0 s roots
-none_yet v s marks count roots none to =
-    subst (λ (l : List Rooted). AreTakenRoots v 0 s l) (sym none)
-    (subst (λ (k : Known). AreTakenRoots v 0 k []) to.store_is (none_taken v to.nothing))
-
-pub mark_read : (v : Versions) (s : Known) (marks : List (Option Mark)) (count n : ℕ)
-    (mark : Option Mark) → mark_in marks n ≡ mark → AreToBeTaken v s marks count
-    → mark_in v.marks.items n ≡ mark
-mark_read v s marks count n mark is to =
-    ap (λ (ms : List (Option Mark)). mark_in ms n) to.marks_are ∙ is
-
-pub there_still : (v : Versions) (s : Known) (marks : List (Option Mark)) (count n : ℕ)
-    → n < count → AreToBeTaken v s marks count → n ≤ moment_of v
-there_still v s marks count n lt to = let many = to.many in omega (arith, lt, many)
+pub taken_of : (v : Versions) (s : Known) (marks : List (Option Mark)) (count : ℕ)
+    (roots : List Rooted) → AreStoredVersions v → HoldsNothing v.store → v.marks.items ≡ marks
+    → moment_of v + 1 ≡ count
+    → ((u : Versions) → AreToBeTaken u v.store marks count → AreTakenRoots u count s roots)
+    → AreTakenRoots v (moment_of v + 1) s roots
+taken_of v s marks count roots are free same many took =
+    subst (λ (n : ℕ). AreTakenRoots v n s roots) (sym many)
+    (took v (record {
+      are = are;
+      nothing = free;
+      store_is = refl;
+      marks_are = same;
+      many = many;
+    }))
 
 -- ---- what was read of a store leaves each held tree that of its name
 
-name_or : Name → Option Name → Name
+abbrev name_or : Name → Option Name → Name
 name_or d None = d
 name_or d (Some n) = n
 
@@ -131,6 +130,14 @@ module _ (v : Versions) (s t : Known) (roots : List Rooted) (number : ℕ)
 
   pub lent_all : AreLent t roots
   lent_all = record { from = v.store; left = left_all }
+
+pub back_again : (v : Versions) (s t u : Known) (roots : List Rooted) (n : ℕ)
+    → AreStoredVersions v → AreTakenRoots v (moment_of v + 1) s roots → SparesRoots s t
+    → known_state t ≡ known_state s → IsStore t n
+    → ((from : Known) → AreLeftOut from t roots → AreLeftOut from u [])
+    → AreLeftOut v.store u []
+back_again v s t u roots n of_v are spares seen st back =
+    back v.store (left_all v s t roots n of_v are spares seen st)
 
 -- ---- one comes back
 
@@ -224,6 +231,10 @@ lent_then s t x more all is keeps lent =
     record { from = lent.from; left = left_then lent.from s t x more all is keeps lent.left }
 
 -- ---- all came back
+
+pub no_more : (roots : List Rooted) → length roots ≡ 0 → roots ≡ []
+no_more [] none = refl
+no_more (x ∷ roots) none = absurd (omega (arith, none))
 
 module _ (v : Versions) (t : Known) (m n : ℕ) (left : AreLeftOut v.store t [])
     (was : IsStore v.store m) (now : IsStore t n) where

@@ -19,7 +19,6 @@ use vw_cell::{Memory, Side};
 
 impl Versions {
     /// The file of the versions that are kept.
-    #[tactic(auto, using(crate::proofs::Lent::lent_are, crate::proofs::Lent::lent_plain, crate::proofs::Lent::lent_leaves, crate::proofs::Lent::lent_nothing))]
     pub(crate) fn dag(&mut self, alloc: Global) -> Result<Vec<u8>, Memory>
         requires are { AreStoredVersions self.old }
         requires free { HoldsNothing self.old.store }
