@@ -2,7 +2,7 @@ use Rattle.std.proofs.Common.{List, ℕ, refl, subst}
 use Rattle.dag_answers.proofs.FileLaws.{file_of_held}
 use Rattle.voxdag_c.specs.held.Calls.{WritesBytes}
 use Rattle.voxdag_c.specs.held.Facts.{WorldFiles}
-use Rattle.voxdag_c.proofs.held.facts.CWorld.dag.Goals as goal
+use Rattle.voxdag_c.proofs.held.worlds.CWorld.dag.Goals as goal
 
 pub returns-in-Ok-clause-writes : goal.returns-in-Ok-clause-writes
 returns-in-Ok-clause-writes c =
