@@ -1,4 +1,4 @@
-use Rattle.std.proofs.Common.{refl, ◌∙◌, ap, rules}
+use Rattle.std.proofs.Common.{refl, ◌∙◌, ap}
 use Rattle.table_rule.specs.Views.{SeatView}
 use Rattle.node_table.specs.LogTurns.{log_left}
 use Rattle.version_log.specs.Commits.{AppendsNext}
