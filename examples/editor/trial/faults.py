@@ -14,7 +14,7 @@ from typing import Any, Optional
 import aiohttp
 
 from trial.loads import journals
-from trial.people import Kept, NoLine, Person, stubborn, until_ok
+from trial.people import Kept, NoLine, Person, answered, stubborn, until_ok
 from trial.started import Editor, Members, patience, told, until
 
 KILLS = 50
@@ -85,10 +85,10 @@ async def with_fewer(servers: list[Editor], members: Members) -> None:
         told("each server follows the other", followed[0] == followed[1], followed)
         members.each[1].kill()
         begin = time.monotonic()
-        answer = await first.ask(fill(1, 2))
+        answer = await answered(first, fill(1, 2))
         took = time.monotonic() - begin
         newest = answers[-1]["ok"]
-        asked = await asyncio.gather(*(person.ask({"do": "ask", "what": "count", "box": [0, 0, 0, 64, 64, 64]}) for person in (first, second)))
+        asked = await asyncio.gather(*(answered(person, {"do": "ask", "what": "count", "box": [0, 0, 0, 64, 64, 64]}) for person in (first, second)))
         told(f"two of three killed: an edit is refused as {answer.get('refused')} in {took:.1f} s, and reading goes on",
              answer.get("refused") == "log_down" and all(one["version"] == newest and one["count"] == 6 for one in asked), [answer, asked])
         for member in members.each[:2]:

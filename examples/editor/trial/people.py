@@ -162,17 +162,26 @@ async def one(person: Person, kept: Kept, edit: dict[str, Any]) -> None:
         kept.refused.append(answer)
 
 
+async def answered(person: Person, message: dict[str, Any]) -> dict[str, Any]:
+    """The answer to a message, which is sent again where the line broke."""
+    end = time.monotonic() + patience()
+    while True:
+        try:
+            await person.stay()
+            return await person.ask(message)
+        except NoLine:
+            if time.monotonic() > end:
+                raise
+        await asyncio.sleep(0.3)
+
+
 async def until_ok(person: Person, edit: dict[str, Any]) -> dict[str, Any]:
     """The answer to an edit, which is made again under its key where the line broke, and while the log can't be reached, as
     on a busy machine."""
     end = time.monotonic() + patience()
     while True:
-        try:
-            await person.stay()
-            answer = await person.ask(edit)
-        except NoLine:
-            answer = {"refused": "no_line"}
-        if answer.get("refused") not in ("log_down", "too_fast", "no_line") or time.monotonic() > end:
+        answer = await answered(person, edit)
+        if answer.get("refused") not in ("log_down", "too_fast") or time.monotonic() > end:
             return answer
         await asyncio.sleep(0.3)
 
