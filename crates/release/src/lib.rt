@@ -21,7 +21,7 @@ ghost use Rattle.node_words.specs.Held.{
   ReachesName,
   ReturnsWithin,
 };
-ghost use Rattle.table_rule.specs.ViewFacts.{most_before_freeing};
+ghost use Rattle.table_rule.specs.ViewFacts.{most_before_freeing, most_before_release};
 ghost use Rattle.node_table.specs.Acts.{OnlySharesChange};
 ghost use Rattle.node_table.specs.TableStates.{BelongsTo};
 ghost use Rattle.release.specs.Returns.{GaveBack, GaveRowBack};
@@ -92,7 +92,7 @@ pub fn back<R: Wait, L: Ledger>(
     requires of { BelongsTo table.now pass.old }
     requires idle { pass.old.view.turn ≡ None }
     requires held { HoldsName pass.old.view.held share }
-    requires room { number_of_trees pass.old.view.held ≤ 4008 }
+    requires room { number_of_trees pass.old.view.held ≤ most_before_release }
     ensures of { BelongsTo table.now pass.new }
     ensures held { ForHeld pass.old.view.held share
         (λ t. Gains pass.new.view.held t pass.old.view.held) }

@@ -39,6 +39,15 @@ ForNamed v P = (t : Tree) (n : Name) → IsReached v.held t → root_of t ≡ So
 abbrev pub most_before_freeing : ℕ
 most_before_freeing = 4089
 
+-- so many leave room for a tree to go as a whole: eight shares at each of eleven levels
+abbrev pub most_before_release : ℕ
+most_before_release = 4008
+
+-- so many leave room for a session's call: what it takes for itself, at most 108 shares, and then
+-- for a tree to go as a whole
+abbrev pub most_before_call : ℕ
+most_before_call = 3900
+
 -- what a view in use tells of the trees that it reaches: they are trees of the world with canonical
 -- shapes, each in the bucket of its shape, one for each name, and one name for each level and
 -- shape; and of the log, and of roots that its turn has shown
