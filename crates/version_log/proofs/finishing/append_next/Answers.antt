@@ -1,4 +1,4 @@
-use Rattle.std.proofs.Common.{refl, ◌∙◌, ap, rules}
+use Rattle.std.proofs.Common.{refl, ◌∙◌, ap}
 use Rattle.table_rule.specs.Views.{SeatView}
 use Rattle.node_table.specs.LogTurns.{log_left}
 use Rattle.version_log.specs.Commits.{AppendsNext}
@@ -21,8 +21,8 @@ log_append_on-requires-clause-may c =
     in
     may_append _ _ _ _ _ _ _ _ m
 
-pub returns-clause-appends : goal.returns-clause-appends
-returns-clause-appends c =
+pub returns : goal.returns
+returns c =
     let r = c.requires in
     let a = r.begins in
     let f = c.cursor_ahead-now.ensures.finds in
@@ -42,12 +42,14 @@ returns-clause-appends c =
     c.log_append_on.ensures.number c.log_append_on.ensures.appended
     in
     record {
-      turn = c.log_append_on.ensures.turn;
-      appends = next;
-      number = appends_number v w c.args.line c.args.act.now c.args.root
-          c.log_append_on.result next;
-      fewer = appends_fewer v w c.args.line c.args.act.now c.args.root c.log_append_on.result
-          r.may.made next;
-      met_nobody = append_meets _ _ _ _ _ _ _ _ m w c.log_append_on.ensures.appended
-          ∙ ap (λ (x : SeatView). x.log.busy) f.learns.is;
+      appends = record {
+        turn = c.log_append_on.ensures.turn;
+        appends = next;
+        number = appends_number v w c.args.line c.args.act.now c.args.root
+            c.log_append_on.result next;
+        fewer = appends_fewer v w c.args.line c.args.act.now c.args.root c.log_append_on.result
+            r.may.made next;
+        met_nobody = append_meets _ _ _ _ _ _ _ _ m w c.log_append_on.ensures.appended
+            ∙ ap (λ (x : SeatView). x.log.busy) f.learns.is;
+      };
     }
