@@ -92,22 +92,12 @@ pub(crate) fn gather_slab<B: Blocks>(
     ensures rests { B.rests store.old store.new }
 {
     gather_sides(store, wholes, level, block, b, z, &mut slab.words);
-    count_blanks(
-        &slab.words,
-        leaves_of(b),
-        &mut slab.anys,
-        &mut slab.blanks,
-    );
+    count_blanks(&slab.words, leaves_of(b), &mut slab.anys, &mut slab.blanks);
 }
 
 // Notes for each of the first leaves which of its cells have a bare side, and how many leaves from
 // it on have none.
-fn count_blanks(
-    words: &BareLayer,
-    n: usize,
-    anys: &mut [u64; 4225],
-    blanks: &mut [u8; 4225],
-)
+fn count_blanks(words: &BareLayer, n: usize, anys: &mut [u64; 4225], blanks: &mut [u8; 4225])
     requires { n ≤ 4225 }
     ensures any { HaveAny words.now anys.new n }
     ensures blank { CountsBlank words.now blanks.new n }

@@ -1,4 +1,5 @@
 use Rattle.std.proofs.Common.{List, length, sym, subst}
+use Rattle.std.specs.Prelude.{slice_index}
 use Rattle.vox_read.specs.declared.voxels.Voxel.{Voxel}
 use Rattle.extract.specs.Layers.{HasRoom, AppendsVoxels}
 use Rattle.extract.specs.BareLayers.{IsAny, run_of_sides}
@@ -14,7 +15,8 @@ returns-then-is_row_blank c =
 
 pub cells_in_room-requires-clause-any : goal.cells_in_room-requires-clause-any
 cells_in_room-requires-clause-any c =
-    subst (λ (leaf : BareLeaf). IsAny leaf _) (sym c.leaf_of.ensures) c.requires.any
+    subst (λ (leaf : BareLeaf). IsAny leaf (slice_index c.args.slab.now.anys c.args.m))
+    (sym c.leaf_of.ensures) c.requires.any
 
 pub cells_in_room-requires-clause-room : goal.cells_in_room-requires-clause-room
 cells_in_room-requires-clause-room c =
