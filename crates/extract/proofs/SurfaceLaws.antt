@@ -23,7 +23,7 @@ use Rattle.node_words.proofs.OfDescent.LookLaws.{root_side}
 use Rattle.extract.specs.Listing.{voxels_joined}
 use Rattle.extract.specs.Layers.{HasRoom, AppendsVoxels, HoldsLayer, IsSmallLayer, bits_show, leaves_along, leaves_in}
 use Rattle.extract.specs.Surface.{sides_number, bare_sides_of, voxel_of_sides, row_of_sides, layer_of_sides, surface_of_box}
-use Rattle.extract.specs.BareLayers.{HoldsBare, HoldsSlab, CountsBlank, CountsFrom, HaveAny, IsAny, IsBlank, IsRowUnset, leaf_at, leaf_sides, part_of_row, run_of_sides}
+use Rattle.extract.specs.BareLayers.{HoldsBare, HoldsSlab, CountsBlank, CountsFrom, IsAny, IsBlank, IsRowUnset, leaf_at, leaf_sides, part_of_row, run_of_sides}
 use Rattle.extract.specs.declared.bare_layers.BareLayer.{BareLayer}
 use Rattle.extract.specs.declared.bare_layers.BareLeaf.{BareLeaf}
 use Rattle.extract.specs.declared.bare_layers.Slab.{Slab}
@@ -284,11 +284,6 @@ any_more words anys n m any inside here rest j from below = elim (cases_eq j m) 
       subst (λ (w : ℕ). IsAny (leaf_at words j) w) (sym told)
       (rest j (omega (arith, from, other)) below)
 ]
-
-pub any_all : (words : BareLayer) (anys : List ℕ) (n m : ℕ) → m ≡ 0
-    → ((j : ℕ) → m ≤ j → j < n → IsAny (leaf_at words j) (slice_index anys j))
-    → HaveAny words anys n
-any_all words anys n m e all = record { each = λ j below. all j (omega (arith, e)) below }
 
 -- one layer of leaves more
 pub slab_more : (z n : ℕ) (f : ℕ → List Voxel) (old mid new : List Voxel)

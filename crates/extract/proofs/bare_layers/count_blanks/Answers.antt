@@ -2,7 +2,7 @@ use Rattle.std.proofs.Common.{◌≡◌, ◌≤◌, ◌<◌, ◌+◌, ◌-◌, �
 use Rattle.std.specs.Prelude.{slice_index}
 use Rattle.extract.specs.BareLayers.{CountsFrom, IsAny, IsBlank, leaf_at}
 use Rattle.extract.specs.declared.bare_layers.BareLeaf.{BareLeaf}
-use Rattle.extract.proofs.SurfaceLaws.{any_all, any_more, counts_more}
+use Rattle.extract.proofs.SurfaceLaws.{any_more, counts_more}
 use Rattle.extract.proofs.bare_layers.count_blanks.Goals as goal
 
 pub loop-m-preserved : goal.loop-m-preserved
@@ -14,9 +14,11 @@ loop-m-preserved c =
       within = omega (arith, c.loop-m.invariant.within);
       any = any_more c.args.words.now c.loop-m.anys c.args.n (m - 1) c.any_of-any.result
           (omega (arith, here, c.requires, c.fits-anys))
-          (subst (λ (leaf : BareLeaf). IsAny leaf c.any_of-any.result) c.leaf_of.ensures c.any_of-any.ensures.any)
+          (subst (λ (leaf : BareLeaf). IsAny leaf c.any_of-any.result) c.leaf_of.ensures
+          c.any_of-any.ensures.any)
           (subst (λ (k : ℕ). (j : ℕ) → k ≤ j → j < c.args.n
-          → IsAny (leaf_at c.args.words.now j) (slice_index c.loop-m.anys j)) back c.loop-m.invariant.any);
+          → IsAny (leaf_at c.args.words.now j) (slice_index c.loop-m.anys j)) back
+          c.loop-m.invariant.any);
       counts = counts_more c.args.words.now c.loop-m.blanks c.args.n (m - 1) c.loop-m.run c.blank_run-run.result
           (omega (arith, here, c.requires, c.fits-blanks))
           c.blank_run-run.ensures.within

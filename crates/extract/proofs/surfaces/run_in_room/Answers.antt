@@ -1,6 +1,5 @@
-use Rattle.std.proofs.Common.{List, length, sym, subst}
+use Rattle.std.proofs.Common.{length, sym, subst}
 use Rattle.std.specs.Prelude.{slice_index}
-use Rattle.vox_read.specs.declared.voxels.Voxel.{Voxel}
 use Rattle.extract.specs.Layers.{HasRoom, AppendsVoxels}
 use Rattle.extract.specs.BareLayers.{IsAny, run_of_sides}
 use Rattle.extract.specs.declared.bare_layers.BareLeaf.{BareLeaf}

@@ -1,4 +1,4 @@
-use Rattle.std.proofs.Common.{◌+◌, ◌-◌, ◌%◌, List, length, arith, refl, sym, subst}
+use Rattle.std.proofs.Common.{◌+◌, ◌-◌, List, length, arith, refl, sym, subst}
 use Rattle.vox_read.specs.declared.voxels.Voxel.{Voxel}
 use Rattle.extract.specs.Layers.{HasRoom, AppendsVoxels}
 use Rattle.extract.specs.Surface.{bare_sides_of}
@@ -37,10 +37,12 @@ returns-clause-appended c side cells held =
     (run_index _ _ _ _ c.requires.row c.from.ensures)
     (run_inside b c.args.y c.args.p c.args.row _ c.requires.b c.requires.y c.requires.p c.requires.inside (run_index _ _ _ _ refl c.from.ensures)) c.run_length-n.ensures.some held.bare
     in
-    subst (λ (xs : List Voxel). AppendsVoxels xs c.args.into.now c.run_in_room.new.into) run c.run_in_room.ensures
+    subst (λ (xs : List Voxel). AppendsVoxels xs c.args.into.now c.run_in_room.new.into) run
+    c.run_in_room.ensures
 
 pub run_in_room-requires-clause-any : goal.run_in_room-requires-clause-any
 run_in_room-requires-clause-any c =
     let held = c.requires.room.2 in
     held.any.each (c.args.row + c.from.result)
-    (run_inside c.args.b c.args.y c.args.p c.args.row _ c.requires.b c.requires.y c.requires.p c.requires.inside (run_index _ _ _ _ refl c.from.ensures))
+    (run_inside c.args.b c.args.y c.args.p c.args.row _ c.requires.b c.requires.y c.requires.p
+    c.requires.inside (run_index _ _ _ _ refl c.from.ensures))
