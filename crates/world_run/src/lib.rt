@@ -14,5 +14,6 @@ mod works;
 
 pub use endings::WorldRan;
 pub use open_runs::OpenRun;
+pub use node_table::Closed;
 pub use runs::{ScriptsRun, Settings, run_scripts};
 pub use session::Ended;
