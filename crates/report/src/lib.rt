@@ -7,4 +7,4 @@ mod texts;
 
 pub use laws::stores_tell_reports;
 pub use rows::ReportRow;
-pub use texts::{level_numbers, report_text};
+pub use texts::report_text;

@@ -1,4 +1,4 @@
-ghost use Rattle.std.specs.Prelude.{◌≡◌, ◌++◌, ◌+◌, ◌≤◌, List, length, take, IfOk, string_bytes};
+ghost use Rattle.std.specs.Prelude.{◌≡◌, ◌++◌, ◌+◌, List, take, IfOk, string_bytes};
 ghost use Rattle.std.specs.List.{flat_map};
 ghost use Rattle.history_model.specs.Contents.{Content};
 ghost use Rattle.core_laws.specs.contents.Aligned.{top};
@@ -23,10 +23,9 @@ pub fn report_text(alloc: Global, closed: &Closed) -> Result<Vec<u8>, Memory>
     Ok(text.into_bytes())
 }
 
-/// How many nodes of each level of the world were live, from level 0 up.
-pub fn level_numbers(closed: &Closed) -> &[u32]
-    ensures are { result.now ≡ take (top closed.now.history.side + 1) closed.now.live }
-    ensures few { length result.now ≤ 11 }
+// How many nodes of each level of the world were live, from level 0 up.
+fn level_numbers(closed: &Closed) -> &[u32]
+    ensures { result.now ≡ take (top closed.now.history.side + 1) closed.now.live }
 {
     let levels = usize::from(closed.history.side.root_level()) + 1;
     &closed.live[..levels]
