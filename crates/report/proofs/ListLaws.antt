@@ -135,11 +135,13 @@ module _ (log : Log) (roots : List Root) (are : AreKeptRoots log roots) where
         record {
           below = λ v between. rows_to log (root_in_list roots) (r.version + 1) v new
               (over v between)
-              (λ u low high. none_between (i + 1) (r.version + 1) v u (λ j less inside. up_to j less)
+              (λ u low high. none_between (i + 1) (r.version + 1) v u
+                  (λ j less inside. up_to j less)
               between low high) both.0;
           look_up = λ v between. firsts_to log (root_in_list roots) (r.version + 1) v news
               (over v between)
-              (λ u low high. none_between (i + 1) (r.version + 1) v u (λ j less inside. up_to j less)
+              (λ u low high. none_between (i + 1) (r.version + 1) v u
+                  (λ j less inside. up_to j less)
               between low high) both.1;
         }
 

@@ -182,7 +182,8 @@ module _ (log : Log) (root : ℕ → Option Name) (v : ℕ) where
             (here_first (old (root_number n)) refl))
         of_first k w false e found = later_first (v + 1) k w (omega arith) (f.first k w found)
 
-        of_there : (u : ℕ) (m : Name) → u < v + 1 → HoldsVersion log u → root u ≡ Some m → (b : Bool)
+        of_there : (u : ℕ) (m : Name) → u < v + 1 → HoldsVersion log u → root u ≡ Some m
+            → (b : Bool)
             → (root_number m == root_number n) ≡ b
             → (if b then Some (unwrap_or (old (root_number n)) v) else old (root_number m)) ≡ None
             → ⊥

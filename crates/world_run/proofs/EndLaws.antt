@@ -42,7 +42,8 @@ module _ (t : TableState) (closed : Closed) (low : 2 ≤ t.plan.side) (high : t.
       subst (λ (ns : List ℕ). AreNumbers t.models closed.history ns) same
       (closed_tells t closed low high ends).are_numbers
 
-  world_numbers : AreNumbers t.models closed.history (take (top closed.history.side + 1) closed.live)
+  world_numbers : AreNumbers t.models closed.history
+          (take (top closed.history.side + 1) closed.live)
   world_numbers = numbers_are (take (top closed.history.side + 1) closed.live)
       (top closed.history.side) (ap (λ (s : ℕ). s - 2) side_is) refl
 
@@ -92,7 +93,8 @@ pub first_of : {X : Type 0} (P : X → Type 0) (x : X) (xs ys : List X) → ys �
 first_of {X} P x xs ys is all = All-head P x xs (subst (λ (zs : List X). All P zs) is all)
 
 -- a world that was closed, but of which there was no memory to tell, had that history
-pub ran_or_had : {E : Type 0} (p : Layout) (models : List Content) (tint : Bool) (sessions : List SessionView)
+pub ran_or_had : {E : Type 0} (p : Layout) (models : List Content) (tint : Bool)
+    (sessions : List SessionView)
     (log : Log) → ClosesWorld tint p models sessions log → (result : Result WorldRan E)
     → IfErr result (λ _. HadHistory tint p models sessions)
 ran_or_had p models tint sessions log closes (Ok r) = tt
