@@ -124,8 +124,8 @@ module _ (v : Versions) (s t : Known) (roots : List Rooted) (number : ℕ)
         stored_same s t p spares
         ∙ are.others p
         (λ kept. (
-          let there = kept.there in
-          none (p, stored_root v.store.roots p) (are.all p (omega (arith, there)) kept) refl));
+        let there = kept.there in
+        none (p, stored_root v.store.roots p) (are.all p (omega (arith, there)) kept) refl));
   }
 
   pub lent_all : AreLent t roots

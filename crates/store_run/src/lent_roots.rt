@@ -33,12 +33,7 @@ impl Versions {
         let side = self.side;
         let mut roots = Vec::with_capacity(alloc, versions)?;
         let _before = self.store.number();
-        take_roots(
-            &mut self.store,
-            self.marks.as_slice(),
-            versions,
-            &mut roots,
-        );
+        take_roots(&mut self.store, self.marks.as_slice(), versions, &mut roots);
         let file = file_of_list(alloc, side, &mut self.store, roots.as_slice());
         let _lent = self.store.number();
         put_roots(&mut self.store, roots);
