@@ -18,3 +18,4 @@ pub mod Taking
 pub mod Filling
 pub mod Followed
 pub mod Taken
+pub mod TintFiles
