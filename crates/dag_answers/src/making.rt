@@ -1,5 +1,5 @@
 //! The file of the versions of a history.
-ghost use Rattle.std.specs.Prelude.{◌≡◌, ◌+◌, ◌^◌, ◌-◌, ◌<◌, ◌≤◌, [], false, All, IfOk, IfErr, OnOk, drop, length};
+ghost use Rattle.std.specs.Prelude.{◌≡◌, ◌+◌, ◌^◌, ◌-◌, ◌<◌, ◌≤◌, [], All, IfOk, IfErr, OnOk, drop, length};
 ghost use Rattle.std.specs.List.{AllPairs};
 ghost use Rattle.vox_read.specs.Contents.{AreModels};
 ghost use Rattle.history_model.specs.Logs.{SuitsTints};
@@ -97,7 +97,7 @@ pub fn world_of_history(
 ) -> Result<OpenWorld, HistoryRefused>
     requires models { AreModels models }
     requires suits { SuitsTints history.now }
-    requires plain { history.now.coloured ≡ false }
+    requires large { IsLargeStore history.now.coloured history.now.side }
     requires marks { AreLegalMarks (length history.now.records) history.now.marks }
     requires side { plan.now.side ≡ history.now.side }
     ensures plan { IfOk result (λ w. w.plan ≡ plan.now) }
@@ -123,7 +123,7 @@ fn world_over<L: Ledger>(
 ) -> Result<OpenWorld, HistoryRefused>
     requires models { AreModels models }
     requires suits { SuitsTints history.now }
-    requires plain { history.now.coloured ≡ false }
+    requires large { IsLargeStore history.now.coloured history.now.side }
     requires marks { AreLegalMarks (length history.now.records) history.now.marks }
     requires side { plan.now.side ≡ history.now.side }
     requires records { AreLegalRecords (2 ^ history.now.side) models history.now.marks
