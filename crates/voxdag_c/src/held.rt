@@ -15,6 +15,7 @@ mod parts;
 mod places;
 mod shown;
 pub mod statuses;
+mod tints;
 mod worlds;
 
 pub use handle::{Handle, handles_cross};

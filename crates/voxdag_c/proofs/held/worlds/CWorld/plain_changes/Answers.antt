@@ -1,6 +1,7 @@
 use Rattle.std.proofs.Common.{refl, sym}
 use Rattle.voxdag_c.specs.held.Calls.{WorldDiffers}
-use Rattle.voxdag_c.proofs.held.worlds.CWorld.changes.Goals as goal
+use Rattle.voxdag_c.proofs.OfHeld.Kinds.{differs_plain}
+use Rattle.voxdag_c.proofs.held.worlds.CWorld.plain_changes.Goals as goal
 
 pub returns-then-not-holds_version-clause-differs : goal.returns-then-not-holds_version-clause-differs
 returns-then-not-holds_version-clause-differs c =
@@ -14,5 +15,5 @@ returns-then-not-holds_version-2-clause-differs c =
 pub returns-clause-differs : goal.returns-clause-differs
 returns-clause-differs c =
     WorldDiffers.told c.changes.result (c.if-not-holds_version.ensures.0 refl)
-    (c.if-not-holds_version-2.ensures.0 refl) c.changes.ensures.extent
+    (c.if-not-holds_version-2.ensures.0 refl) (differs_plain c.args.self.now c.args.a c.args.b c.changes.result c.requires c.changes.ensures.extent)
     (sym c.put_extent.ensures.found, c.put_extent.ensures.none)

@@ -1,11 +1,11 @@
-use Rattle.std.proofs.Common.{List, ℕ, refl, sym, ◌^◌, subst}
+use Rattle.std.proofs.Common.{List, ℕ, refl, sym, subst}
 use Rattle.vw_cell.specs.declared.boxes.Boxed.{Boxed}
 use Rattle.vw_cell.specs.declared.cells.Cell.{Cell}
 use Rattle.flood.specs.Regions.{FilesRegion}
-use Rattle.voxdag_c.specs.held.Calls.{WorldFloods, WritesBytes, cells_of_version}
+use Rattle.voxdag_c.specs.held.Calls.{WorldFloods, WritesBytes, cells_of_version, held_side}
 use Rattle.voxdag_c.specs.held.Places.{box_of, cell_of_c_place}
 use Rattle.voxdag_c.proofs.OfHeld.Fitting.{box_fits, box_leaves, cell_leaves, region_fits, region_leaves, start_inside}
-use Rattle.voxdag_c.proofs.held.worlds.CWorld.flood.Goals as goal
+use Rattle.voxdag_c.proofs.held.worlds.CWorld.plain_flood.Goals as goal
 
 pub returns-in-None-clause-floods : goal.returns-in-None-clause-floods
 returns-in-None-clause-floods c =
@@ -16,7 +16,7 @@ pub returns-in-None-cell_in-clause-floods : goal.returns-in-None-cell_in-clause-
 returns-in-None-cell_in-clause-floods c =
     WorldFloods.outside
     (λ f. cell_leaves c.side-side.result _ c.side-side.ensures c.args.from c.in-None-cell_in.ensures.exactly
-    (start_inside (2 ^ c.args.self.now.open.plan.side) (box_of c.args.part) (cell_of_c_place c.args.from) f.part_fits.inside f.start))
+    (start_inside (held_side c.args.self.now) (box_of c.args.part) (cell_of_c_place c.args.from) f.part_fits.inside f.start))
     refl (record { bytes = refl; number = refl })
 
 pub returns-then-not-is_region-clause-floods : goal.returns-then-not-is_region-clause-floods
