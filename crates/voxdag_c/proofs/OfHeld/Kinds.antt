@@ -125,26 +125,48 @@ no_model_here w number at none =
 
 -- ---- acts with a tint of their own
 
-module _ (w : CWorld) (tint : ℕ) (is : w.open.log.coloured ≡ true) (good : IsTint tint) where
+module _ (w : CWorld) (is : w.open.log.coloured ≡ true) where
   quarter : (P : ℕ → Type 0) → P (held_side w) → P (store_side w / 4)
   quarter P p = subst (λ (c : Bool). P (side_of_world c (store_side w))) is p
 
   again : (P : ℕ → Type 0) → P (store_side w / 4) → P (held_side w)
   again P p = subst (λ (c : Bool). P (side_of_world c (store_side w))) (sym is) p
 
-  pub box_takes : (b : Boxed) → FitsAt b.at b.size (held_side w)
-      → FitsWorld (store_side w) w.open.models (Tint (tints.Fill b tint))
-  box_takes b fits = (quarter (λ n. FitsAt b.at b.size n) fits, good)
+module _ (w : CWorld) (tint t : ℕ) (same : t ≡ tint) (is : w.open.log.coloured ≡ true)
+    (good : IsTint tint) where
+  good_here : IsTint t
+  good_here = subst (λ (n : ℕ). IsTint n) (sym same) good
 
+  pub box_takes : (b : Boxed) → FitsAt b.at b.size (held_side w)
+      → FitsWorld (store_side w) w.open.models (Tint (tints.Fill b t))
+  box_takes b fits = (quarter w is (λ n. FitsAt b.at b.size n) fits, good_here)
+
+  pub box_tinted : (b part : Boxed) (status : ℕ) (v : CWorld) → b ≡ part
+      → WorldChanges w (Tint (tints.Fill b t)) status v
+      → WorldTints w (tints.Fill part tint) tint status v
+  box_tinted b part status v of changes =
+      WorldTints.changes status v is good
+      (subst (λ (x : Boxed). WorldChanges w (Tint (tints.Fill x tint)) status v) of
+      (subst (λ (n : ℕ). WorldChanges w (Tint (tints.Fill b n)) status v) same changes))
+
+  pub ball_takes : (b : balls.Ball) → IsInWorld (held_side w) b.centre × (b.radius ≤ 4095)
+      → FitsWorld (store_side w) w.open.models (Tint (tints.Ball b t))
+  ball_takes b fits = (quarter w is (λ n. IsInWorld n b.centre) fits.0, fits.1, good_here)
+
+  pub ball_tinted : (b whole : balls.Ball) (status : ℕ) (v : CWorld) → b ≡ whole
+      → WorldChanges w (Tint (tints.Ball b t)) status v
+      → WorldTints w (tints.Ball whole tint) tint status v
+  ball_tinted b whole status v of changes =
+      WorldTints.changes status v is good
+      (subst (λ (x : balls.Ball). WorldChanges w (Tint (tints.Ball x tint)) status v) of
+      (subst (λ (n : ℕ). WorldChanges w (Tint (tints.Ball b n)) status v) same changes))
+
+module _ (w : CWorld) (tint : ℕ) (is : w.open.log.coloured ≡ true) (good : IsTint tint) where
   pub box_tint_outside : (b : Boxed) → ¬ FitsAt b.at b.size (held_side w)
       → WorldTints w (tints.Fill b tint) tint 3 w
   box_tint_outside b leaves =
       WorldTints.changes 3 w is good
-      (WorldChanges.outside tt (λ f. leaves (again (λ n. FitsAt b.at b.size n) f.0)))
-
-  pub ball_takes : (b : balls.Ball) → IsInWorld (held_side w) b.centre → b.radius ≤ 4095
-      → FitsWorld (store_side w) w.open.models (Tint (tints.Ball b tint))
-  ball_takes b inside few = (quarter (λ n. IsInWorld n b.centre) inside, few, good)
+      (WorldChanges.outside tt (λ f. leaves (again w is (λ n. FitsAt b.at b.size n) f.0)))
 
   pub ball_tint_outside : (b : balls.Ball)
       → ¬ (IsInWorld (held_side w) b.centre × (b.radius ≤ 4095))
@@ -152,14 +174,7 @@ module _ (w : CWorld) (tint : ℕ) (is : w.open.log.coloured ≡ true) (good : I
   ball_tint_outside b leaves =
       WorldTints.changes 3 w is good
       (WorldChanges.outside tt
-      (λ f. leaves (again (λ n. IsInWorld n b.centre) f.0, f.1)))
-
-  pub suits_tint : (act : TintAct) → suits_tints w.open.log.coloured (Tint act) ≡ true
-  suits_tint act = is
-
-  pub tinted_by : (act : TintAct) (status : ℕ) (v : CWorld)
-      → WorldChanges w (Tint act) status v → WorldTints w act tint status v
-  tinted_by act status v changes = WorldTints.changes status v is good changes
+      (λ f. leaves (again w is (λ n. IsInWorld n b.centre) f.0, f.1.0)))
 
 -- ---- the other kind of world
 

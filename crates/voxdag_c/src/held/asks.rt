@@ -173,7 +173,6 @@ impl CWorld {
     }
 
     // The VOX file of a box of a version.
-    #[tactic(auto, using(crate::proofs::OfHeld::Kinds::tinted_file, crate::proofs::OfHeld::Kinds::plain_file, crate::proofs::OfHeld::Kinds::tinted_part, crate::proofs::OfHeld::Kinds::plain_part))]
     fn file(&mut self, alloc: Global, version: u32, part: Boxed) -> Result<Vec<u8>, Memory>
         requires kept { HoldsVersion self.old.open.log version }
         requires inside { FitsAt part.at part.size (held_side self.old) }
@@ -183,10 +182,9 @@ impl CWorld {
         ensures same { self.new ≡ self.old }
     {
         if self.open.tint() {
-            self.open.tint_file(alloc, version, part)
-        } else {
-            self.open.file(alloc, version, part)
+            return self.open.tint_file(alloc, version, part);
         }
+        self.open.file(alloc, version, part)
     }
 
     /// Writes the text of the journal, where there is room for it, and says how many bytes it has.

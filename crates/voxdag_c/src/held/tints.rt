@@ -1,5 +1,5 @@
 //! The calls of a world whose cells have tints.
-ghost use Rattle.std.specs.Prelude.{◌≡◌, ◌↔◌, ◌≤◌, IsTrue, true};
+ghost use Rattle.std.specs.Prelude.{◌≡◌, ◌↔◌, ◌≤◌, IfSome, IsSome, true};
 ghost use Rattle.history_model.specs.declared.acts.TintAct.TheVariants as tints;
 ghost use Rattle.history_model.specs.declared.questions.Question.TheVariants as questions;
 ghost use Rattle.history_model.specs.Tints.{IsTint};
@@ -15,24 +15,23 @@ use transcript::Answer;
 
 impl CWorld {
     /// Gives the cells of a box a tint.
-    #[tactic(auto, using(crate::proofs::OfHeld::Kinds::tint_outside, crate::proofs::OfHeld::Kinds::tint_fits))]
     pub fn fill_tint(&mut self, part: CBox, tint: u32) -> u32
         ensures { WorldTints self.old (tints.Fill (box_of part) tint) tint result self.new }
     {
         if !self.open.tint() {
             return status::OTHER_KIND;
         }
-        if !is_tint(tint) {
-            return status::BAD_TINT;
-        }
+        let tint = match tint_of(tint) {
+            Some(tint) => tint,
+            None => return status::BAD_TINT,
+        };
         match part.box_in(self.open.side()) {
-            Some(b) => self.change(Act::Tint(TintAct::Fill(b, tint as u8))),
+            Some(b) => self.change(Act::Tint(TintAct::Fill(b, tint))),
             None => status::OUTSIDE,
         }
     }
 
     /// Gives the cells of a ball a tint.
-    #[tactic(auto, using(crate::proofs::OfHeld::Kinds::tint_outside, crate::proofs::OfHeld::Kinds::tint_fits))]
     pub fn ball_tint(&mut self, centre: CPlace, radius: u32, tint: u32) -> u32
         ensures { WorldTints self.old (tints.Ball (ball_of centre radius) tint) tint result
             self.new }
@@ -40,11 +39,12 @@ impl CWorld {
         if !self.open.tint() {
             return status::OTHER_KIND;
         }
-        if !is_tint(tint) {
-            return status::BAD_TINT;
-        }
+        let tint = match tint_of(tint) {
+            Some(tint) => tint,
+            None => return status::BAD_TINT,
+        };
         match centre.ball_in(radius, self.open.side()) {
-            Some(ball) => self.change(Act::Tint(TintAct::Ball(ball, tint as u8))),
+            Some(ball) => self.change(Act::Tint(TintAct::Ball(ball, tint))),
             None => status::OUTSIDE,
         }
     }
@@ -72,10 +72,16 @@ impl CWorld {
     }
 }
 
-fn is_tint(tint: u32) -> bool
-    ensures { IsTrue result ↔ IsTint tint }
+// The number as a tint, where it is one.
+fn tint_of(tint: u32) -> Option<u8>
+    ensures exactly { IsSome result ↔ IsTint tint }
+    ensures value { IfSome result (λ t. t ≡ tint) }
 {
-    1 <= tint && tint <= 255
+    if 1 <= tint && tint <= 255 {
+        Some(tint as u8)
+    } else {
+        None
+    }
 }
 
 fn tint_in_answer(answer: Answer) -> u8

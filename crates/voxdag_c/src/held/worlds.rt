@@ -285,7 +285,9 @@ fn act_of_kind(tint: bool, act: Act) -> Act
         Act::Carve(b) => Act::Tint(TintAct::Carve(b)),
         Act::Copy(b, to) => Act::Tint(TintAct::Copy(b, to)),
         Act::Stamp(number, at) => Act::Tint(TintAct::Stamp(number, at)),
-        other => other,
+        Act::Tint(act) => Act::Tint(act),
+        Act::Undo => Act::Undo,
+        Act::Redo => Act::Redo,
     }
 }
 
