@@ -100,6 +100,15 @@ pub same_steps : (dx dy dz : ℤ) → SFits w16 dx → SFits w16 dy → SFits w1
 same_steps dx dy dz x y z =
     λ i. heading_of (to_z-of_z w16 dx x i) (to_z-of_z w16 dy y i) (to_z-of_z w16 dz z i)
 
+-- a box and the one of its size that goes to a place
+pub copy_fits : (cells : ℕ) (part : CBox) (to : CPlace) (b there : Boxed) → b ≡ box_of part
+    → there ≡ box_of (record { at = to; size = part.size }) → FitsAt b.at b.size cells
+    → FitsAt there.at there.size cells → FitsAt b.at b.size cells × FitsAt there.at b.size cells
+copy_fits cells part to b there same is fits other =
+    let size : there.size ≡ b.size =
+    ap (λ (x : Boxed). x.size) is ∙ ap (λ (x : Boxed). x.size) (sym same) in
+    (fits, subst (λ (s : Cell). FitsAt there.at s cells) size other)
+
 -- a model of this size fits where a box of its size does
 pub model_fits : (models : List Content) (m side : ℕ) (size at : Cell)
     → Some size ≡ size_of (slice_get models m) → FitsAt at size side

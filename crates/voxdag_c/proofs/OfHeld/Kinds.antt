@@ -24,6 +24,7 @@ use Rattle.extract.specs.Surface.{surface_of_box}
 use Rattle.store_run.specs.TintFiles.{file_of_tints}
 use Rattle.voxdag_c.specs.declared.held.worlds.CWorld.{CWorld}
 use Rattle.voxdag_c.specs.declared.held.places.CBox.{CBox}
+use Rattle.voxdag_c.specs.declared.held.places.CPlace.{CPlace}
 use Rattle.voxdag_c.specs.held.Places.{box_of, cell_of_c_place}
 use Rattle.voxdag_c.proofs.OfHeld.Fitting.{box_fits}
 use Rattle.voxdag_c.specs.held.Calls.{ByKind, HasItsModel, WorldChanges, WorldTints, act_here, act_of_kind, cells_of_version, file_by_kind, file_of_version, held_side, store_side, tints_at}
@@ -110,6 +111,14 @@ module _ (w : CWorld) (tint : Bool) (act made : Act) (is : tint ≡ w.open.log.c
       → WorldChanges w (act_here w act) status v
   changed_here status v changes =
       subst (λ (a : Act). WorldChanges w a status v) made_here changes
+
+pub copied : (w v : CWorld) (status : ℕ) (part : CBox) (to : CPlace) (b there : Boxed)
+    → b ≡ box_of part → there ≡ box_of (record { at = to; size = part.size })
+    → WorldChanges w (act_here w (Copy b there.at)) status v
+    → WorldChanges w (act_here w (Copy (box_of part) (cell_of_c_place to))) status v
+copied w v status part to b there same is changes =
+    subst (λ (x : Boxed). WorldChanges w (act_here w (Copy x (cell_of_c_place to))) status v) same
+    (subst (λ (x : Boxed). WorldChanges w (act_here w (Copy b x.at)) status v) is changes)
 
 pub outside_here : (w : CWorld) (act : Act) → suits_tints false act ≡ true
     → HasItsModel w.open.models act → ¬ FitsWorld (held_side w) w.open.models act

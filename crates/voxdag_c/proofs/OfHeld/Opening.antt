@@ -1,15 +1,18 @@
 -- Why no world is opened.
-use Rattle.std.proofs.Common.{◌≡◌, Bool, false, ℕ, ◌<◌, ◌≢◌, zero, suc, ◌*◌, ◌/◌, ◌^◌, ◌≤◌, eqb, true, List, [], ◌∷◌, length, refl, sym, subst, arith, inl, inr}
+use Rattle.std.proofs.Common.{◌≡◌, ◌≢◌, ◌↔◌, Bool, false, true, ℕ, zero, suc, ◌*◌, ◌/◌, ◌^◌, ◌<◌, ◌≤◌, eqb, Option, Some, None, List, [], ◌∷◌, length, refl, sym, ◌∙◌, ap, subst, arith, inl, inr}
 use lib.Pow.{pow_mono}
 use Rattle.std.proofs.lemmas.Bool.{cases_lt, false≢true}
-use Rattle.std.specs.Prelude.{Result, Ok, Err, IfErr, IsTrue}
+use Rattle.std.specs.Prelude.{Result, Ok, Err, IfErr, IfSome, IsSome, IsTrue}
 use Rattle.vw_cell.specs.Sides.{is_side}
-use Rattle.node_words.specs.Plans.{is_cap}
+use Rattle.node_words.specs.Plans.{Layout, usual_buckets}
+use Rattle.history_model.specs.Logs.{side_of_world}
 use Rattle.history_model.proofs.MarkLaws.{store_side_is}
 use Rattle.vox_chunk.specs.declared.faults.VoxFault.{VoxFault}
 use Rattle.vox_chunk.specs.declared.faults.VoxFault.TheVariants.{NotVox, Version, NoMain, Truncated, ShortSize, SizeRange, XyziWithoutSize, ShortXyzi, VoxelOutside, TooManyModels, Memory}
 use Rattle.vox_read.specs.Files.{RefusesFile}
-use Rattle.voxdag_c.specs.held.Calls.{Refuses, RefusesModels, AreSideAndCap, status_of_file}
+use Rattle.store_run.specs.Kept.{IsLargeStore}
+use Rattle.voxdag_c.specs.held.Calls.{Refuses, RefusesModels, AreSideAndCap, AreSlots, status_of_file}
+use Rattle.voxdag_c.specs.held.GoingOn.{IsCapAsked, IsPlanAsked}
 
 refuses_fault : (fault : VoxFault) (bytes : List ℕ) → 0 < length bytes → RefusesFile fault bytes
     → RefusesModels bytes (status_of_file fault)
@@ -63,32 +66,94 @@ four_times (suc (suc (suc (suc (suc (suc (suc (suc (suc (suc zero)))))))))) low 
 four_times (suc (suc (suc (suc (suc (suc (suc (suc (suc (suc (suc more))))))))))) low high =
     absurd (omega arith)
 
-pub four_side : (world cells : ℕ) → (2 ≤ world) × (world ≤ 12) → cells ≡ 2 ^ world
-    → cells ≤ 1024 → IsTrue (is_side (cells * 4))
-four_side world cells bounds is few =
-    let low : world ≤ 10 = elim (cases_lt world 11) [
+pub four_side : (world cells : ℕ) → 2 ≤ world → cells ≡ 2 ^ world → 2 ^ world ≤ 1024
+    → IsTrue (is_side (cells * 4))
+four_side world cells low is few =
+    let high : world ≤ 10 = elim (cases_lt world 11) [
       | inl less ↦ omega (arith, less)
-      | inr more ↦ absurd (let up : 2 ^ 11 ≤ 2 ^ world = pow_mono more in omega (arith, up, is, few))
+      | inr more ↦ absurd (let up : 2 ^ 11 ≤ 2 ^ world = pow_mono more in omega (arith, up, few))
     ] in
-    subst (λ (n : ℕ). IsTrue (is_side (n * 4))) (sym is) (four_times world bounds.0 low)
+    subst (λ (n : ℕ). IsTrue (is_side (n * 4))) (sym is) (four_times world low high)
 
-pub store_is : (world store cells exponent : ℕ) → (2 ≤ world) × (world ≤ 12)
-    → (2 ≤ exponent) × (exponent ≤ 12) → exponent ≡ store → cells ≡ 2 ^ world
+pub four_few : (world store cells : ℕ) → store ≤ 12 → cells ≡ 2 ^ world → 2 ^ store ≡ cells * 4
+    → 2 ^ world ≤ 1024
+four_few world store cells high is four =
+    let most : 2 ^ store ≤ 2 ^ 12 = pow_mono high in omega (arith, is, four, most)
+
+pub store_is : (world store cells : ℕ) → 2 ≤ world → 2 ≤ store → store ≤ 12 → cells ≡ 2 ^ world
     → 2 ^ store ≡ cells * 4 → (2 ^ store / 4 ≡ 2 ^ world) × (4 ≤ store)
-store_is world store cells exponent low bounds same is four =
-    let kept =
-    store_side_is world store cells low.0 (omega (arith, bounds, same)) (omega (arith, bounds, same))
-    is (omega (arith, four)) in
+store_is world store cells low some high is four =
+    let kept = store_side_is world store cells low some high is (omega (arith, four)) in
     (omega (arith, four, is), kept.0.2 refl)
 
--- a world can have the side exactly where its store can, and its buckets the slots
-pub may_have_plan : (coloured : Bool) (side cap : ℕ) → IsTrue (is_side side)
-    → (coloured ≡ true → side ≤ 1024) → (cap ≢ 0 → IsTrue (is_cap cap))
-    → AreSideAndCap coloured side cap
-may_have_plan coloured side cap is has slots =
-    record { is_a_side = is; has_store = has; is_a_cap = slots }
+pub tinted_exactly : (tint : Bool) (world : ℕ) (result : Option ℕ) → tint ≡ true
+    → (IsSome result ↔ (2 ^ world ≤ 1024)) → IsSome result ↔ (tint ≡ true → 2 ^ world ≤ 1024)
+tinted_exactly tint world result is e = (λ some _. e.0 some, λ has. e.1 (has is))
 
-pub has_plan_side : (coloured : Bool) (side cap world : ℕ) → AreSideAndCap coloured side cap
+pub tinted_side : (tint : Bool) (world : ℕ) (result : Option ℕ) → tint ≡ true
+    → IfSome result (λ s. (2 ^ s / 4 ≡ 2 ^ world) × (4 ≤ s))
+    → IfSome result (λ s. side_of_world tint (2 ^ s) ≡ 2 ^ world)
+tinted_side tint world None is told = tt
+tinted_side tint world (Some s) is told =
+    subst (λ (c : Bool). side_of_world c (2 ^ s) ≡ 2 ^ world) (sym is) told.0
+
+pub tinted_large : (tint : Bool) (world : ℕ) (result : Option ℕ) → tint ≡ true
+    → IfSome result (λ s. (2 ^ s / 4 ≡ 2 ^ world) × (4 ≤ s))
+    → IfSome result (λ s. IsLargeStore tint s)
+tinted_large tint world None is told = tt
+tinted_large tint world (Some s) is told =
+    subst (λ (c : Bool). IsLargeStore c s) (sym is) told.1
+
+module _ (tint : Bool) (world : ℕ) (is : tint ≡ false) where
+  pub plain_exactly : IsSome (Some world) ↔ (tint ≡ true → 2 ^ world ≤ 1024)
+  plain_exactly = (λ _ tinted. absurd (false≢true (sym is ∙ tinted)), λ _. refl)
+
+  pub plain_store_side : side_of_world tint (2 ^ world) ≡ 2 ^ world
+  plain_store_side = ap (λ (c : Bool). side_of_world c (2 ^ world)) is
+
+  pub plain_large : IsLargeStore tint world
+  plain_large = subst (λ (c : Bool). IsLargeStore c world) (sym is) tt
+
+-- ---- the plan of the store
+
+pub has_store_side : (coloured : Bool) (side cap world : ℕ) → AreSideAndCap coloured side cap
     → 2 ^ world ≡ side → coloured ≡ true → 2 ^ world ≤ 1024
-has_plan_side coloured side cap world are same tinted =
+has_store_side coloured side cap world are same tinted =
     let few = are.has_store tinted in omega (arith, few, same)
+
+pub plan_exactly : (coloured : Bool) (side cap world : ℕ) (result : Option Layout)
+    → IsTrue (is_side side) → 2 ^ world ≡ side → (coloured ≡ true → 2 ^ world ≤ 1024)
+    → (IsSome result ↔ IsCapAsked cap) → IsSome result ↔ AreSideAndCap coloured side cap
+plan_exactly coloured side cap world result is same has e = (
+  λ some. record {
+      is_a_side = is;
+      has_store = λ tinted. let few = has tinted in omega (arith, few, same);
+      is_a_cap = e.0 some;
+    },
+  λ are. e.1 are.is_a_cap,
+)
+
+pub plan_side : (coloured : Bool) (side cap world store : ℕ) (result : Option Layout)
+    → side_of_world coloured (2 ^ store) ≡ 2 ^ world → 2 ^ world ≡ side
+    → IfSome result (IsPlanAsked store cap)
+    → IfSome result (λ p. side_of_world coloured (2 ^ p.side) ≡ side)
+plan_side coloured side cap world store None of same told = tt
+plan_side coloured side cap world store (Some p) of same told =
+    ap (λ (n : ℕ). side_of_world coloured (2 ^ n)) told.side_is ∙ of ∙ same
+
+pub plan_large : (coloured : Bool) (cap store : ℕ) (result : Option Layout)
+    → IsLargeStore coloured store → IfSome result (IsPlanAsked store cap)
+    → IfSome result (λ p. IsLargeStore coloured p.side)
+plan_large coloured cap store None large told = tt
+plan_large coloured cap store (Some p) large told =
+    subst (λ (n : ℕ). IsLargeStore coloured n) (sym told.side_is) large
+
+pub plan_buckets : (cap store : ℕ) (result : Option Layout) → IfSome result (IsPlanAsked store cap)
+    → IfSome result (λ p. p.buckets ≡ usual_buckets)
+plan_buckets cap store None told = tt
+plan_buckets cap store (Some p) told = told.buckets
+
+pub plan_slots : (cap store : ℕ) (result : Option Layout) → IfSome result (IsPlanAsked store cap)
+    → IfSome result (λ p. AreSlots cap p.cap)
+plan_slots cap store None told = tt
+plan_slots cap store (Some p) told = told.slots

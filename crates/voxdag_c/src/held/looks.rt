@@ -31,7 +31,6 @@ impl CWorld {
     }
 
     // The same of a world without tints.
-    #[tactic(auto, using(crate::proofs::OfHeld::Kinds::differs_plain))]
     fn plain_changes(&mut self, a: u32, b: u32, some: &mut bool, least: &mut CBox) -> u32
         requires plain { self.old.open.log.coloured ≡ false }
         ensures differs { WorldDiffers self.old a b
@@ -74,7 +73,6 @@ impl CWorld {
     }
 
     // The same of a world without tints.
-    #[tactic(auto, using(crate::proofs::OfHeld::Kinds::part_of_plain))]
     fn plain_surface(
         &mut self,
         alloc: Global,
@@ -132,7 +130,6 @@ impl CWorld {
     }
 
     // The same of a world without tints.
-    #[tactic(auto, using(crate::proofs::OfHeld::Kinds::part_of_plain))]
     fn plain_flood(
         &mut self,
         alloc: Global,

@@ -1,7 +1,8 @@
-ghost use Rattle.std.specs.Prelude.{◌≡◌, ◌↔◌, ◌^◌, [], None, IfOk, IfErr, IfSome, IsSome, IsTrue, true, false};
+ghost use Rattle.std.specs.Prelude.{◌≡◌, ◌↔◌, ◌^◌, ◌/◌, ◌≤◌, [], None, IfOk, IfErr, IfSome, IsSome, IsTrue, true, false};
 ghost use Rattle.node_words.specs.Plans.{usual_buckets};
 ghost use Rattle.vox_read.specs.Contents.{AreModels};
 ghost use Rattle.history_model.specs.Logs.{FitsWorld, side_of_world, suits_tints};
+ghost use Rattle.history_model.specs.Spelling.{tinted_act};
 ghost use Rattle.history_model.specs.declared.acts.Act.TheVariants.{Fill, Erase, Carve, Copy, Stamp, Undo, Redo};
 ghost use Rattle.history_model.specs.declared.acts.Act.TheVariants as acts;
 ghost use Rattle.transcript.specs.declared.answers.Answer.TheVariants as answers;
@@ -229,7 +230,6 @@ impl CWorld {
     }
 
     // Makes a plain act that lies in the world, with tint 1 where cells have tints.
-    #[tactic(auto, using(crate::proofs::OfHeld::Kinds::fits_here, crate::proofs::OfHeld::Kinds::suits_here, crate::proofs::OfHeld::Kinds::changed_here))]
     fn change_here(&mut self, act: Act) -> u32
         requires fits { FitsWorld (held_side self.old) self.old.open.models act }
         requires plain { suits_tints false act ≡ true }
@@ -275,9 +275,13 @@ impl CWorld {
 fn act_of_kind(tint: bool, act: Act) -> Act
     ensures { result ≡ act_of_kind tint act }
 {
-    if !tint {
-        return act;
-    }
+    if tint { tinted(act) } else { act }
+}
+
+// The act with tint 1.
+fn tinted(act: Act) -> Act
+    ensures { result ≡ tinted_act 1 act }
+{
     match act {
         Act::Fill(b) => Act::Tint(TintAct::Fill(b, 1)),
         Act::Erase(b) => Act::Tint(TintAct::Erase(b)),
@@ -285,14 +289,11 @@ fn act_of_kind(tint: bool, act: Act) -> Act
         Act::Carve(b) => Act::Tint(TintAct::Carve(b)),
         Act::Copy(b, to) => Act::Tint(TintAct::Copy(b, to)),
         Act::Stamp(number, at) => Act::Tint(TintAct::Stamp(number, at)),
-        Act::Tint(act) => Act::Tint(act),
-        Act::Undo => Act::Undo,
-        Act::Redo => Act::Redo,
+        other => other,
     }
 }
 
 // The plan of the store of a world of this side, where there is one.
-#[tactic(auto, using(crate::proofs::OfHeld::Opening::may_have_plan, crate::proofs::OfHeld::Opening::has_plan_side))]
 fn plan_of(side: u32, cap: u16, tint: bool) -> Option<Plan>
     ensures exactly { IsSome result ↔ AreSideAndCap tint side cap }
     ensures side { IfSome result (λ p. side_of_world tint (2 ^ p.side) ≡ side) }
@@ -311,23 +312,29 @@ fn plan_of(side: u32, cap: u16, tint: bool) -> Option<Plan>
 }
 
 // The side of the store that keeps a world of this side: four times that where cells have tints.
-#[tactic(auto, using(crate::proofs::OfHeld::Opening::store_is, crate::proofs::OfHeld::Opening::four_side))]
 fn store_of(world: Side, tint: bool) -> Option<Side>
     ensures exactly { IsSome result ↔ (tint ≡ true → 2 ^ world ≤ 1024) }
     ensures side { IfSome result (λ s. side_of_world tint (2 ^ s) ≡ 2 ^ world) }
     ensures large { IfSome result (λ s. IsLargeStore tint s) }
 {
-    if !tint {
-        return Some(world);
+    if tint {
+        return fourfold(world);
     }
-    let _exponent = world.exponent();
-    let cells = world.cells();
-    if cells > 1_024 {
-        return None;
-    }
-    match Side::new(cells * 4) {
-        Some(store) => Some(store),
-        None => unreachable!(),
+    Some(world)
+}
+
+// Four times the side, where that is one.
+fn fourfold(world: Side) -> Option<Side>
+    ensures exactly { IsSome result ↔ (2 ^ world ≤ 1024) }
+    ensures four { IfSome result (λ s. (2 ^ s / 4 ≡ 2 ^ world) × (4 ≤ s)) }
+{
+    let _world = world.exponent();
+    match Side::new(world.cells() * 4) {
+        Some(store) => {
+            let _exponent = store.exponent();
+            Some(store)
+        }
+        None => None,
     }
 }
 

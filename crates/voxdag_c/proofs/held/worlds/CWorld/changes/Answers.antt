@@ -10,3 +10,6 @@ returns-then-tint-clause-differs c =
 pub returns-clause-differs : goal.returns-clause-differs
 returns-clause-differs c =
     ByKind.does c.plain_changes.result (sym c.tint.ensures ∙ c.if-tint.false) c.plain_changes.ensures.differs
+
+pub plain_changes-requires : goal.plain_changes-requires
+plain_changes-requires c = record { plain = sym c.tint.ensures ∙ c.if-tint.false }

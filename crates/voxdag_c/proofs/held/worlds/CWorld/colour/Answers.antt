@@ -1,4 +1,4 @@
-use Rattle.std.proofs.Common.{rules, ℕ, refl, sym, ◌∙◌, ap}
+use Rattle.std.proofs.Common.{ℕ, refl, sym, ◌∙◌, ap}
 use Rattle.vw_cell.specs.declared.cells.Cell.{Cell}
 use Rattle.history_model.specs.declared.questions.Question.TheVariants as questions
 use Rattle.transcript.specs.declared.answers.Answer.TheVariants as answers
@@ -11,11 +11,11 @@ use Rattle.voxdag_c.proofs.held.worlds.CWorld.colour.Goals as goal
 
 pub returns-then-not-tint-clause-asks : goal.returns-then-not-tint-clause-asks
 returns-then-not-tint-clause-asks c =
-    ByKind.other_kind (not_tinted c.args.self.now (search rules)) refl
+    ByKind.other_kind (not_tinted c.args.self.now (sym c.tint.ensures ∙ c.if-not-tint.true)) refl
 
 pub returns-in-Ok-clause-asks : goal.returns-in-Ok-clause-asks
 returns-in-Ok-clause-asks c =
-    ByKind.does 0 (search rules)
+    ByKind.does 0 (sym c.tint.ensures ∙ c.if-not-tint.false)
     (asked c.args.self.now c.args.version (questions.Colour c.in-Some.c)
     (questions.Colour (cell_of_c_place c.args.place)) _ _
     (ap (λ (x : Cell). questions.Colour x) c.in-Some.ensures.value) c.in-Ok.answer c.in-Ok.ensures.told
@@ -25,13 +25,13 @@ returns-in-Ok-clause-asks c =
 
 pub returns-in-Err-clause-asks : goal.returns-in-Err-clause-asks
 returns-in-Err-clause-asks c =
-    ByKind.does c.in-Err.status (search rules)
+    ByKind.does c.in-Err.status (sym c.tint.ensures ∙ c.if-not-tint.false)
     (not_asked c.args.self.now c.args.version (questions.Colour c.in-Some.c)
     (questions.Colour (cell_of_c_place c.args.place)) _ _
     (ap (λ (x : Cell). questions.Colour x) c.in-Some.ensures.value) c.in-Err.status c.in-Err.ensures.gone refl)
 
 pub returns-in-None-clause-asks : goal.returns-in-None-clause-asks
 returns-in-None-clause-asks c =
-    ByKind.does 3 (search rules)
+    ByKind.does 3 (sym c.tint.ensures ∙ c.if-not-tint.false)
     (WorldAsks.outside
     (cell_leaves c.side.result _ c.side.ensures c.args.place c.in-None.ensures.exactly) refl)

@@ -10,3 +10,6 @@ returns-then-tint-clause-floods c =
 pub returns-clause-floods : goal.returns-clause-floods
 returns-clause-floods c =
     ByKind.does c.plain_flood.result (sym c.tint.ensures ∙ c.if-tint.false) c.plain_flood.ensures.floods
+
+pub plain_flood-requires : goal.plain_flood-requires
+plain_flood-requires c = record { plain = sym c.tint.ensures ∙ c.if-tint.false }

@@ -15,5 +15,5 @@ returns-then-not-holds_version-2-clause-differs c =
 pub returns-clause-differs : goal.returns-clause-differs
 returns-clause-differs c =
     WorldDiffers.told c.changes.result (c.if-not-holds_version.ensures.0 refl)
-    (c.if-not-holds_version-2.ensures.0 refl) (differs_plain c.args.self.now c.args.a c.args.b c.changes.result c.requires c.changes.ensures.extent)
+    (c.if-not-holds_version-2.ensures.0 refl) (differs_plain c.args.self.now c.args.a c.args.b c.changes.result c.requires.plain c.changes.ensures.extent)
     (sym c.put_extent.ensures.found, c.put_extent.ensures.none)

@@ -5,6 +5,7 @@ use Rattle.flood.specs.Regions.{FilesRegion}
 use Rattle.voxdag_c.specs.held.Calls.{WorldFloods, WritesBytes, cells_of_version, held_side}
 use Rattle.voxdag_c.specs.held.Places.{box_of, cell_of_c_place}
 use Rattle.voxdag_c.proofs.OfHeld.Fitting.{box_fits, box_leaves, cell_leaves, region_fits, region_leaves, start_inside}
+use Rattle.voxdag_c.proofs.OfHeld.Kinds.{part_of_plain}
 use Rattle.voxdag_c.proofs.held.worlds.CWorld.plain_flood.Goals as goal
 
 pub returns-in-None-clause-floods : goal.returns-in-None-clause-floods
@@ -53,3 +54,8 @@ returns-in-Err-clause-floods c =
     (box_fits c.side-side.result _ c.side-side.ensures c.args.part c.in-Some.b c.in-Some.ensures.value c.in-Some.ensures.exactly)
     (c.if-not-is_region.ensures.0 refl))
     refl (record { bytes = refl; number = refl })
+
+pub flood-requires-clause-inside : goal.flood-requires-clause-inside
+flood-requires-clause-inside c =
+    part_of_plain c.args.self.now c.args.part c.in-Some.b c.side-side.result c.requires.plain
+    c.side-side.ensures c.in-Some.ensures.value c.in-Some.ensures.exactly

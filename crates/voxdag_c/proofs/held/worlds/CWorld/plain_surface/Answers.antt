@@ -6,7 +6,7 @@ use Rattle.extract.specs.Surface.{surface_of_box}
 use Rattle.voxdag_c.specs.held.Calls.{WorldShows, WritesItems, held_side, cells_of_version}
 use Rattle.voxdag_c.specs.held.Places.{shown_of}
 use Rattle.voxdag_c.proofs.OfHeld.Fitting.{box_fits, box_leaves, file_fits, file_large}
-use Rattle.voxdag_c.proofs.OfHeld.Kinds.{surface_plain}
+use Rattle.voxdag_c.proofs.OfHeld.Kinds.{part_of_plain, surface_plain}
 use Rattle.voxdag_c.proofs.held.worlds.CWorld.plain_surface.Goals as goal
 
 pub returns-in-None-clause-shows : goal.returns-in-None-clause-shows
@@ -34,7 +34,7 @@ returns-in-Ok-clause-shows c =
     (box_fits c.side.result _ c.side.ensures c.args.part c.in-Some.b c.in-Some.ensures.value c.in-Some.ensures.exactly)
     (c.if-not-is_small.ensures.0 refl))
     (subst (λ (voxels : List Voxel). WritesItems (map shown_of voxels) c.args.out.now c.put_shown.new.out c.put_shown.new.needed c.put_shown.result)
-    (c.as_slice.ensures.value ∙ surface_plain c.args.self.now c.args.version c.in-Some.b c.in-Ok.voxels.items c.requires c.in-Ok.ensures.voxels
+    (c.as_slice.ensures.value ∙ surface_plain c.args.self.now c.args.version c.in-Some.b c.in-Ok.voxels.items c.requires.plain c.in-Ok.ensures.voxels
     ∙ ap (λ (b : Boxed). surface_of_box (held_side c.args.self.now)
     (cells_of_version c.args.self.now c.args.version) b) c.in-Some.ensures.value)
     c.put_shown.ensures.writes)
@@ -46,3 +46,8 @@ returns-in-Err-clause-shows c =
     (box_fits c.side.result _ c.side.ensures c.args.part c.in-Some.b c.in-Some.ensures.value c.in-Some.ensures.exactly)
     (c.if-not-is_small.ensures.0 refl))
     (record { bytes = refl; number = refl })
+
+pub surface-requires-clause-inside : goal.surface-requires-clause-inside
+surface-requires-clause-inside c =
+    part_of_plain c.args.self.now c.args.part c.in-Some.b c.side.result c.requires.plain
+    c.side.ensures c.in-Some.ensures.value c.in-Some.ensures.exactly

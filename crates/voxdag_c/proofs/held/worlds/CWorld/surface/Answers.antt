@@ -10,3 +10,6 @@ returns-then-tint-clause-shows c =
 pub returns-clause-shows : goal.returns-clause-shows
 returns-clause-shows c =
     ByKind.does c.plain_surface.result (sym c.tint.ensures ∙ c.if-tint.false) c.plain_surface.ensures.shows
+
+pub plain_surface-requires : goal.plain_surface-requires
+plain_surface-requires c = record { plain = sym c.tint.ensures ∙ c.if-tint.false }
