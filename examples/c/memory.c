@@ -103,7 +103,11 @@ static int tinted(long n)
     left = n;
     voxdag_status s = voxdag_open_as(&w, &kind, NULL, 0);
     if (s != VOXDAG_OK) return s == VOXDAG_NO_MEMORY && voxdag_close(&w) == VOXDAG_IS_CLOSED ? 1 : 2;
-    if (voxdag_fill_tint(&w, &part, 7)) return 2;
+    s = voxdag_fill_tint(&w, &part, 7);
+    if (s == VOXDAG_NO_MEMORY) {
+        failed = 1;
+        if (voxdag_fill_tint(&w, &part, 7)) return 2;
+    } else if (s != VOXDAG_OK) return 2;
     s = voxdag_save(&w, 1, &part, out, sizeof out, &needed);
     if (s == VOXDAG_NO_MEMORY) {
         failed = 1;
