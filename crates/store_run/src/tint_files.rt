@@ -47,7 +47,7 @@ pub(crate) fn tint_file_over<L: Ledger>(
 }
 
 // The same, where the version's root is held.
-#[tactic(auto, using(crate::proofs::Rebuilding::share_level, crate::proofs::Holding::holds_root, crate::proofs::Sparing::are_spared, crate::proofs::Rebuilding::seen_tree, crate::proofs::Rebuilding::stays_seen, crate::proofs::Rebuilding::large_tints, crate::proofs::TintFiles::box_of_quarter, crate::proofs::TintFiles::root_tinted))]
+#[tactic(auto, using(crate::proofs::Rebuilding::share_level, crate::proofs::Holding::holds_root, crate::proofs::Sparing::are_spared, crate::proofs::Rebuilding::seen_tree, crate::proofs::Rebuilding::stays_seen, crate::proofs::Rebuilding::large_tints, crate::proofs::TintFiles::root_tinted))]
 fn tint_file_of_root(
     versions: &mut Versions,
     alloc: Global,
@@ -73,7 +73,7 @@ fn tint_file_of_root(
 }
 
 // The file of a box of the world whose tints the cells of a root keep.
-#[tactic(auto, using(crate::proofs::TintFiles::is_tint_size, crate::proofs::TintFiles::tints_inside, crate::proofs::TintFiles::tints_few, crate::proofs::TintFiles::told_tints))]
+#[tactic(auto, using(crate::proofs::TintFiles::is_tint_size, crate::proofs::TintFiles::told_tints))]
 fn tint_file<B: Blocks>(
     alloc: Global,
     store: &mut B,

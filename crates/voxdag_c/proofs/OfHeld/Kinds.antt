@@ -13,7 +13,6 @@ use Rattle.vox_read.specs.declared.voxels.Voxel.{Voxel}
 use Rattle.vox_read.specs.Contents.{Content}
 use Rattle.history_model.specs.declared.acts.Act.{Act}
 use Rattle.history_model.specs.declared.acts.Act.TheVariants.{Fill, Erase, Ball, Carve, Copy, Stamp, Tint, Undo, Redo}
-use Rattle.history_model.specs.declared.acts.TintAct.{TintAct}
 use Rattle.history_model.specs.declared.acts.TintAct.TheVariants as tints
 use Rattle.history_model.specs.Logs.{FitsWorld, side_of_world, suits_tints}
 use Rattle.history_model.specs.Tints.{IsTint}
@@ -183,7 +182,7 @@ module _ (w : CWorld) (tint : ℕ) (is : w.open.log.coloured ≡ true) (good : I
   ball_tint_outside b leaves =
       WorldTints.changes 3 w is good
       (WorldChanges.outside tt
-      (λ f. leaves (again w is (λ n. IsInWorld n b.centre) f.0, f.1.0)))
+      (λ f. leaves (again w is (λ n. IsInWorld n b.centre) f.0, f.1)))
 
 -- ---- the other kind of world
 
