@@ -1,5 +1,5 @@
 -- What a call does through a handle, from what it does to the world that is held.
-use Rattle.std.proofs.Common.{◌≡◌, ℕ, Option, Some, None, List, sym, ◌∙◌, ap, subst}
+use Rattle.std.proofs.Common.{◌≡◌, Bool, ℕ, Option, Some, None, List, sym, ◌∙◌, ap, subst}
 use Rattle.std.proofs.Common.{ℤ, SFits, w16, to_z, of_z}
 use Rattle.vw_cell.specs.declared.cells.Cell.{Cell}
 use Rattle.history_model.specs.Ways.{Heading, heading_of}

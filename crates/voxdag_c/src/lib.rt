@@ -8,7 +8,7 @@
 
 mod held;
 
-ghost use Rattle.std.specs.Prelude.{◌≡◌, false, ⊤};
+ghost use Rattle.std.specs.Prelude.{◌≡◌, false, true, ⊤};
 ghost use Rattle.history_model.specs.Ways.{heading_of};
 ghost use Rattle.history_model.specs.declared.acts.Act.TheVariants.{Fill, Erase, Carve, Copy, Stamp, Undo, Redo};
 ghost use Rattle.history_model.specs.declared.acts.Act.TheVariants as acts;
