@@ -624,7 +624,8 @@ pub extern "C" fn voxdag_c_open(
     cap: u16,
     file: &[u8],
 ) -> u32
-    ensures { OpensHandle false side cap 0 file.now handle.old.kept.value result handle.new.kept.value }
+    ensures { OpensHandle false side cap 0 file.now handle.old.kept.value result
+        handle.new.kept.value }
 {
     open_as(alloc, handle, side, cap, 0, false, file)
 }

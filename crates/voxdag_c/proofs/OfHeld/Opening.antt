@@ -126,10 +126,10 @@ pub plan_exactly : (coloured : Bool) (side cap world : ℕ) (result : Option Lay
     → (IsSome result ↔ IsCapAsked cap) → IsSome result ↔ AreSideAndCap coloured side cap
 plan_exactly coloured side cap world result is same has e = (
   λ some. record {
-      is_a_side = is;
-      has_store = λ tinted. let few = has tinted in omega (arith, few, same);
-      is_a_cap = e.0 some;
-    },
+    is_a_side = is;
+    has_store = λ tinted. let few = has tinted in omega (arith, few, same);
+    is_a_cap = e.0 some;
+  },
   λ are. e.1 are.is_a_cap,
 )
 

@@ -149,8 +149,8 @@ pub data KeepsLast (w : CWorld) : CWorld → Type 0 where
       → WorldForgets w version status v → KeepsLast w v
 
 -- a change of the world: its model isn't there, it leaves the world, or memory lacks, and nothing
--- changed; or it was made, and what fell out then was forgotten; or the answer says why not, and the
--- history is what it was. Memory may lack at any change: nothing here says that it doesn't
+-- changed; or it was made, and what fell out then was forgotten; or the answer says why not, and
+-- the history is what it was. Memory may lack at any change: nothing here says that it doesn't
 pub data WorldChanges (w : CWorld) (act : Act) : ℕ → CWorld → Type 0 where
   no_model : ¬ HasItsModel w.open.models act → WorldChanges w act 14 w
   outside : HasItsModel w.open.models act → ¬ FitsWorld (store_side w) w.open.models act
@@ -214,7 +214,8 @@ pub data WorldAsks (w : CWorld) (version : ℕ) (question : Question) (Written :
   gone : (status : ℕ) → CantBeAsked w version question status → Untouched
       → WorldAsks w version question Written Untouched status
 
--- what an answer says: of a cell and its tint, of a number of cells or faces, of a least box, of a hit
+-- what an answer says: of a cell, of its tint, of a number of cells or faces, of a least box, of a
+-- hit
 abbrev pub is_in : Answer → Bool
 is_in (answers.Is set) = set
 is_in other = false
@@ -351,8 +352,8 @@ pub record FitsRegion (side : ℕ) (part : Boxed) (from : Cell) : Type 0 where
   pub part_fits : FitsFile side part
   pub start : IsInBox part from
 
--- the cells of a box of a version that ways through its clear cells join with a cell of it: how many
--- they are, and their VOX file
+-- the cells of a box of a version that ways through its clear cells join with a cell of it: how
+-- many they are, and their VOX file
 pub data WorldFloods (w : CWorld) (version : ℕ) (part : Boxed) (from : Cell) (was cells : ℕ)
     (old new : List ℕ) (before needed : ℕ) : ℕ → Type 0 where
   made : (status : ℕ) (file : List ℕ) → HoldsVersion w.open.log version
@@ -383,7 +384,8 @@ pub record AreSlots (asked slots : ℕ) : Type 0 where
 
 -- a world of this side and cap, which keeps so many versions, with the models of these bytes, where
 -- nothing was done
-pub record IsBegun (coloured : Bool) (side cap keep : ℕ) (bytes : List ℕ) (w : CWorld) : Type 0 where
+pub record IsBegun (coloured : Bool) (side cap keep : ℕ) (bytes : List ℕ)
+    (w : CWorld) : Type 0 where
   pub cells : held_side w ≡ side
   pub buckets : w.open.plan.buckets ≡ usual_buckets
   pub slots : AreSlots cap w.open.plan.cap
@@ -420,8 +422,8 @@ status_of_file Memory = 2
 status_of_file other = 15
 
 -- a world is opened in a handle that has none
-pub data OpensHandle (coloured : Bool) (side cap keep : ℕ) (bytes : List ℕ) : Option CWorld → ℕ → Option CWorld
-    → Type 0 where
+pub data OpensHandle (coloured : Bool) (side cap keep : ℕ) (bytes : List ℕ)
+    : Option CWorld → ℕ → Option CWorld → Type 0 where
   is_open : (w : CWorld) → OpensHandle coloured side cap keep bytes (Some w) 13 (Some w)
   refused : (status : ℕ) → Refuses coloured side cap bytes status
       → OpensHandle coloured side cap keep bytes None status None
