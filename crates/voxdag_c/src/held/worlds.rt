@@ -138,8 +138,7 @@ impl CWorld {
     /// Puts what the box has where its least corner goes to the place.
     pub fn copy(&mut self, part: CBox, to: CPlace) -> u32
         ensures { WorldChanges self.old
-            (act_here self.old (Copy (box_of part) (cell_of_c_place to)))
-            result self.new }
+            (act_here self.old (Copy (box_of part) (cell_of_c_place to))) result self.new }
     {
         let side = self.open.side();
         let there = CBox {
