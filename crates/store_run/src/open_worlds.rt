@@ -233,12 +233,7 @@ impl OpenWorld {
     /// The VOX file of a box of a version of a world with tints, in which each set cell has its tint
     /// as its colour.
     #[tactic(auto, using(crate::proofs::TintFiles::rests_tinted, crate::proofs::TintFiles::part_here))]
-    pub fn tint_file(
-        &mut self,
-        alloc: Global,
-        version: u32,
-        part: Boxed,
-    ) -> Result<Vec<u8>, Memory>
+    pub fn tint_file(&mut self, alloc: Global, version: u32, part: Boxed) -> Result<Vec<u8>, Memory>
         requires tinted { self.old.log.coloured ≡ true }
         requires kept { HoldsVersion self.old.log version }
         requires inside { FitsAt part.at part.size (2 ^ self.old.plan.side / 4) }
