@@ -1,6 +1,6 @@
 -- What a world takes whose cells have tints, and one whose cells have none.
 use Rattle.std.proofs.Common.{◌≡◌, ◌≢◌, ℕ, ◌/◌, ◌^◌, ◌≤◌, ◌↔◌, Bool, true, false, Option, Some, None, List, refl, sym, ◌∙◌, ap, subst, arith}
-use Rattle.std.specs.Prelude.{Result, Ok, Err, IfOk, IsSome, IsTrue}
+use Rattle.std.specs.Prelude.{Result, IfOk, IsSome, IsTrue}
 use Rattle.std.specs.List.{slice_get}
 use Rattle.std.specs.declared.vec.Vec.{Vec}
 use Rattle.std.proofs.lemmas.Bool.{false≢true}
@@ -26,7 +26,7 @@ use Rattle.voxdag_c.specs.declared.held.places.CBox.{CBox}
 use Rattle.voxdag_c.specs.declared.held.places.CPlace.{CPlace}
 use Rattle.voxdag_c.specs.held.Places.{box_of, cell_of_c_place}
 use Rattle.voxdag_c.proofs.OfHeld.Fitting.{box_fits}
-use Rattle.voxdag_c.specs.held.Calls.{ByKind, HasItsModel, WorldChanges, WorldTints, act_here, act_of_kind, cells_of_version, file_by_kind, file_of_version, held_side, store_side, tints_at}
+use Rattle.voxdag_c.specs.held.Calls.{HasItsModel, WorldChanges, WorldTints, act_here, act_of_kind, cells_of_version, file_by_kind, file_of_version, held_side, store_side, tints_at}
 
 -- ---- a plain act, as a world takes it
 

@@ -1,4 +1,4 @@
-use Rattle.std.proofs.Common.{◌≡◌, ◌^◌, ◌↔◌, false, sym, subst, ap, ◌∙◌}
+use Rattle.std.proofs.Common.{◌^◌, ◌↔◌, sym, subst}
 use Rattle.std.specs.Prelude.{IsTrue}
 use Rattle.history_model.specs.Logs.{side_of_world}
 use Rattle.history_model.specs.Moments.{world_has, world_tint}
