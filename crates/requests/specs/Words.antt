@@ -247,10 +247,11 @@ pub record Form : Type 0 where
   pub command : List ℕ
   pub asks : List (List ℕ) → Option Request
 
--- `count FILE`; `demo N`; `flood FILE m x y z OUT`; `scene FILE OUT SCRIPT`; `dag FILE JOURNAL OUT`;
--- `look DAG v` and a question; `audit [--buckets b] [--keep k] FILE JOURNAL SCRIPT ..`; or `run`, and
--- behind it in any order FILE SCRIPT .. and at most once each `--side s`, `--buckets b`, `--cap c`,
--- `--keep k`, `--journal J`, `--report P` and `--colours`
+-- `count FILE`; `demo N`; `flood FILE m x y z OUT`; `scene FILE OUT SCRIPT`;
+-- `dag FILE JOURNAL OUT`; `look DAG v` and a question;
+-- `audit [--buckets b] [--keep k] FILE JOURNAL SCRIPT ..`; or `run`, and behind it in any order
+-- FILE SCRIPT .. and at most once each `--side s`, `--buckets b`, `--cap c`, `--keep k`,
+-- `--journal J`, `--report P` and `--colours`
 abbrev pub forms : List Form
 forms =
     record { command = codes "count"; asks = λ words. option_map Count (one_file words) }
