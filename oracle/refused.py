@@ -132,7 +132,7 @@ def run(program: str, top: str, row: Row, call: int = 0, thread: int = 0) -> tup
                    "REFUSE_THREAD": str(thread)}
     try:
         done = subprocess.run([program, *words.split()], cwd=folder, env=environment, stdin=subprocess.DEVNULL,
-                              stdout=subprocess.PIPE, stderr=subprocess.DEVNULL, timeout=120, check=False)
+                              stdout=subprocess.PIPE, stderr=subprocess.DEVNULL, timeout=1200, check=False)
         status, printed = done.returncode, done.stdout
     except subprocess.TimeoutExpired as expired:
         status, printed = "no end", expired.stdout or b""

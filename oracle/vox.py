@@ -450,7 +450,7 @@ def compare(folder: str, program: str) -> None:
     for name in sorted(os.listdir(folder)):
         file = os.path.join(folder, name)
         kind, line, status = answer(contents(file))
-        ended = subprocess.run([program, "count", file], stdout=subprocess.PIPE, timeout=60)
+        ended = subprocess.run([program, "count", file], stdout=subprocess.PIPE, timeout=1200)
         if (ended.stdout, ended.returncode) != (line.encode(), status):
             print(f"{file}: the slow reader has status {status} and {line!r}, "
                   f"and {program} has status {ended.returncode} and {ended.stdout!r}", file=sys.stderr)

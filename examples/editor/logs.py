@@ -207,7 +207,7 @@ class SharedLog:
             first = base64.b64decode(entries[-1]["key"]).decode() + "\0"
 
     async def open(self, about: About, file: bytes) -> Opened:
-        self._session = aiohttp.ClientSession(read_bufsize=1 << 20)
+        self._session = self._session or aiohttp.ClientSession(read_bufsize=1 << 20)
         rows = [(f"{self._prefix}about", json.dumps(about._asdict()).encode()), (self._key("files", 0), file)]
         await self._put(rows)
         found = await self._range(f"{self._prefix}about", f"{self._prefix}about\0")

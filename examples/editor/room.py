@@ -15,7 +15,7 @@ from collections import deque
 from typing import Any, Callable, NamedTuple, Optional
 
 import voxdag
-from logs import About, Log, LogDown, Record
+from logs import About, Log, LogDown, Opened, Record
 from messages import Edit, Question, Refusal, of_library, text_of
 
 MOST_RECORDS = 65535
@@ -201,7 +201,7 @@ class Room:
 
     async def open(self, about: About, file: bytes) -> None:
         """Goes on from the log, or begins it."""
-        opened = await self._log.open(about, file)
+        opened = await self._open_log(about, file)
         self.about, self.files = opened.about, opened.files
         self._open_world([record.act for record in opened.records])
         for record in opened.records:
@@ -210,6 +210,18 @@ class Room:
         self._tasks = [asyncio.create_task(task) for task in (self._work(), self._tell(), self._point(), self._log.follow(self._hear))]
         for task in self._tasks:
             task.add_done_callback(self._end)
+
+    async def _open_log(self, about: About, file: bytes) -> Opened:
+        """The log, once it can be reached."""
+        told = ""
+        while True:
+            try:
+                return await self._log.open(about, file)
+            except LogDown as down:
+                if told != str(down):
+                    print(f"waiting for the log: {down}", flush=True)
+                told = str(down)
+                await asyncio.sleep(1)
 
     def _end(self, task: "asyncio.Task[None]") -> None:
         """A fault of a task is one of the server, which ends: it goes on from its log when it is started again."""

@@ -36,6 +36,11 @@ export class Link {
     return this.#socket?.readyState === WebSocket.OPEN;
   }
 
+  /** How many edits and questions aren't answered yet. */
+  get asks() {
+    return this.#waiting.size;
+  }
+
   open() {
     const scheme = location.protocol === "https:" ? "wss" : "ws";
     const socket = new WebSocket(`${scheme}://${location.host}${address("/ws")}`);

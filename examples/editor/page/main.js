@@ -130,7 +130,8 @@ function point() {
     rests = 0;
     const message = { do: "point", at: state.cursor ?? state.hover, version: versions.isLive ? null : versions.shown };
     const text = JSON.stringify(message);
-    if (text !== told && link.stands) link.tell(message);
+    if (text === told || !link.stands) return;
+    link.tell(message);
     told = text;
   }, 120);
 }
@@ -281,6 +282,7 @@ function welcome(message) {
   const name = localStorage.getItem("name");
   if (name) link.tell({ do: "hello", name });
   told = "";
+  point();
   showVersions();
 }
 
@@ -377,7 +379,7 @@ try {
   tell("trouble", String(error.message));
 }
 
-/** What a test looks at. */
+/** What a test looks at: `isDrawn` says that the picture has all that is told here, `asks` how many answers are awaited. */
 window.editor = {
   told: () => ({
     shown: versions?.shown,
@@ -385,7 +387,8 @@ window.editor = {
     isLive: versions?.isLive,
     count: cells?.count,
     people: state.people,
-    changed: cells?.changed.size,
+    isDrawn: !state.isStale && cells?.changed.size === 0,
+    asks: link?.asks,
     angle: camera?.angle,
   }),
   at: (x, y, z) => cells.at(x, y, z) & 255,

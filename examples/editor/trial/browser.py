@@ -4,24 +4,28 @@ from __future__ import annotations
 
 import asyncio
 import base64
+import contextlib
 import shutil
-import time
 from pathlib import Path
 from typing import Any, Callable, Optional
 
 import aiohttp
 from selenium import webdriver
+from selenium.common.exceptions import WebDriverException
 from selenium.webdriver.chrome.options import Options
 from selenium.webdriver.chrome.service import Service
 from selenium.webdriver.common.by import By
 from selenium.webdriver.common.keys import Keys
 
-from trial.people import Person
+from trial.people import Person, until_ok
 from trial.scene import village
-from trial.started import MODELS, Editor, told
+from trial.started import MODELS, Editor, patience, told, until
 
+# A busy machine may take long over a picture: nothing in the browser is ended for that.
 FLAGS = ("--headless=new", "--no-sandbox", "--use-angle=swiftshader", "--enable-unsafe-swiftshader", "--disable-dev-shm-usage", "--hide-scrollbars",
-         "--window-size=1280,860", "--force-device-scale-factor=1")
+         "--window-size=1280,860", "--force-device-scale-factor=1", "--disable-gpu-watchdog", "--disable-hang-monitor", "--no-first-run",
+         "--disable-background-timer-throttling", "--disable-renderer-backgrounding", "--disable-backgrounding-occluded-windows")
+STARTS = 5
 # How many points of the picture are brighter than all but cells and boxes.
 POINTS = """
 const canvas = document.getElementById("world"), gl = canvas.getContext("webgl2");
@@ -33,21 +37,36 @@ return count;
 """
 
 
+# The picture as it is now was handed on to be shown.
+FRAMES = "const done = arguments[0]; requestAnimationFrame(() => requestAnimationFrame(() => requestAnimationFrame(done)));"
+
+
+def browser() -> webdriver.Chrome:
+    """Chromium. It is started again where its start takes longer than its driver waits."""
+    options = Options()
+    options.binary_location = shutil.which("chromium") or ""
+    for flag in FLAGS:
+        options.add_argument(flag)
+    options.set_capability("goog:loggingPrefs", {"browser": "ALL"})
+    for turn in range(STARTS):
+        try:
+            return webdriver.Chrome(service=Service(shutil.which("chromedriver")), options=options)
+        except WebDriverException:
+            if turn == STARTS - 1:
+                raise
+
+
 class Page:
     """A browser with the editor open."""
 
-    def __init__(self, server: Editor, name: str) -> None:
-        options = Options()
-        options.binary_location = shutil.which("chromium") or ""
-        for flag in FLAGS:
-            options.add_argument(flag)
-        options.set_capability("goog:loggingPrefs", {"browser": "ALL"})
-        self.driver = webdriver.Chrome(service=Service(shutil.which("chromedriver")), options=options)
-        self.driver.set_script_timeout(180)
-        self.driver.get(server.url + "/")
-        self.wait(lambda page: page.told().get("shown") is not None)
-        box = self.driver.find_element(By.ID, "name")
-        box.send_keys(name, Keys.TAB)
+    def __init__(self, driver: webdriver.Chrome, server: Editor, name: str) -> None:
+        self.driver = driver
+        driver.set_page_load_timeout(patience())
+        driver.set_script_timeout(patience())
+        driver.get(server.url + "/")
+        if not self.wait(lambda now: now.get("shown") is not None):
+            raise RuntimeError(f"the page has no world: {self.driver.get_log('browser')}")
+        self.driver.find_element(By.ID, "name").send_keys(name, Keys.TAB)
 
     def told(self) -> dict[str, Any]:
         return self.driver.execute_script("return window.editor ? window.editor.told() : {}")
@@ -56,37 +75,45 @@ class Page:
         """The tint that the page shows there."""
         return self.driver.execute_script("return window.editor.at(...arguments)", x, y, z)
 
+    def has_chosen(self, group: str, words: str) -> bool:
+        """Whether the button that is chosen of a group begins with these words."""
+        script = "return document.querySelector(`#${arguments[0]} [aria-checked=true]`)?.textContent ?? ''"
+        return self.driver.execute_script(script, group).startswith(words)
+
     def points(self) -> int:
         return self.driver.execute_script(POINTS)
 
-    def wait(self, is_so: Callable[["Page"], bool], seconds: float = 40) -> bool:
-        end = time.monotonic() + seconds
-        while time.monotonic() < end:
-            if is_so(self):
-                return True
-            time.sleep(0.05)
-        return False
+    def wait(self, is_so: Callable[[dict[str, Any]], bool]) -> bool:
+        """Waits until it is so of what the page tells."""
+        return until(lambda: is_so(self.told()))
+
+    def rests(self, is_so: Callable[[dict[str, Any]], bool] = lambda now: True) -> bool:
+        """Waits until it is so, no answer is awaited, and all of it is drawn."""
+        return self.wait(lambda now: is_so(now) and now["asks"] == 0 and now["isDrawn"])
+
+    def element(self, name: str) -> Any:
+        return self.driver.find_element(By.ID, name)
 
     def keys(self, *keys: str) -> None:
         """Keys in the world, one after the other."""
-        self.driver.find_element(By.ID, "world").send_keys(*keys)
+        self.element("world").send_keys(*keys)
 
     def chord(self, key: str) -> None:
         webdriver.ActionChains(self.driver).key_down(Keys.CONTROL).send_keys(key).key_up(Keys.CONTROL).perform()
 
     def click(self, name: str) -> None:
-        self.driver.find_element(By.ID, name).click()
+        self.element(name).click()
 
     def slide(self, version: int) -> None:
         self.driver.execute_script("const s = document.getElementById('version'); s.value = arguments[0]; s.dispatchEvent(new Event('input'));", version)
 
     def look(self, angle: float, tilt: float, far: float, place: list[float]) -> None:
         self.driver.execute_script("window.editor.look(...arguments)", angle, tilt, far, place)
-        self.wait(lambda page: page.told()["changed"] == 0)
-        time.sleep(0.3)
+        self.rests()
 
     def picture(self, file: Path) -> int:
         """Writes the page as a JPEG, and gives how many bytes it has."""
+        self.driver.execute_async_script(FRAMES)
         data = self.driver.execute_cdp_cmd("Page.captureScreenshot", {"format": "jpeg", "quality": 82})["data"]
         file.write_bytes(base64.b64decode(data))
         return file.stat().st_size
@@ -98,20 +125,28 @@ class Page:
 
 def edits_and_undo(ann: Page, bo: Page) -> None:
     """A cube that Ann builds with keys is seen by Bo; Bo takes it back; Ann brings it again."""
+    def has(version: int, count: int) -> Callable[[dict[str, Any]], bool]:
+        return lambda now: now["shown"] == version and now["count"] == count
+
     ann.keys("b", Keys.ARROW_RIGHT, Keys.ENTER, *[Keys.ARROW_RIGHT] * 4, *[Keys.ARROW_UP] * 4, *[Keys.PAGE_UP] * 4, Keys.ENTER)
-    seen = bo.wait(lambda page: page.told()["shown"] == 1 and page.told()["count"] == 98)
-    told("what Ann builds is seen by Bo", seen and ann.wait(lambda page: page.told()["count"] == 98), [ann.told(), bo.told()])
-    names = bo.wait(lambda page: {"Ann", "Bo"} == {person["name"] for person in page.told()["people"]})
-    points = [person["at"] for person in bo.told()["people"] if person["name"] == "Ann"]
-    told("Bo sees who is here and where Ann points", names and points[0] is not None and len(points[0]) == 3, bo.told()["people"])
+    seen = [page.wait(has(1, 98)) for page in (bo, ann)]
+    told("what Ann builds is seen by Bo", all(seen), [ann.told(), bo.told()])
+    told("Bo sees who is here and where Ann points", bo.wait(sees_ann_point), bo.told()["people"])
     bo.keys("c", Keys.ARROW_LEFT, Keys.ENTER, Keys.ENTER)
-    told("what Bo builds is seen by Ann", ann.wait(lambda page: page.told()["shown"] == 2), ann.told())
+    told("what Bo builds is seen by Ann", ann.wait(lambda now: now["shown"] == 2), ann.told())
     bo.chord("z")
-    bo.wait(lambda page: page.told()["shown"] == 3)
+    bo.wait(lambda now: now["shown"] == 3)
     bo.click("undo")
-    told("two undos of Bo are seen by Ann", ann.wait(lambda page: page.told()["shown"] == 4 and page.told()["count"] == 0), ann.told())
+    told("two undos of Bo are seen by Ann", ann.wait(has(4, 0)), ann.told())
     ann.click("redo")
-    told("Ann's redo is seen by Bo", bo.wait(lambda page: page.told()["shown"] == 5 and page.told()["count"] == 98), bo.told())
+    told("Ann's redo is seen by Bo", bo.wait(has(5, 98)), bo.told())
+
+
+def sees_ann_point(now: dict[str, Any]) -> bool:
+    """Whether Ann and Bo alone are there, and Ann points at a cell."""
+    names = {person["name"] for person in now["people"]}
+    points = [person["at"] for person in now["people"] if person["name"] == "Ann"]
+    return names == {"Ann", "Bo"} and points[0] is not None and len(points[0]) == 3
 
 
 def old_version(ann: Page, bo: Page, folder: Path) -> None:
@@ -120,38 +155,37 @@ def old_version(ann: Page, bo: Page, folder: Path) -> None:
         page.look(0.75, 0.5, 150, [64, 64, 10])
     both = [page.points() for page in (ann, bo)]
     bo.slide(0)
-    gone = bo.wait(lambda page: page.told()["shown"] == 0 and page.told()["count"] == 0)
+    gone = bo.rests(lambda now: now["shown"] == 0 and now["count"] == 0)
     ann.keys("c", "t", Keys.ARROW_UP, Keys.ENTER, *[Keys.PAGE_UP] * 6, Keys.ENTER)
-    ann.wait(lambda page: page.told()["shown"] == 6)
-    news = bo.wait(lambda page: page.told()["newest"] == 6)
-    time.sleep(0.4)
+    made = ann.rests(lambda now: now["shown"] == 6)
+    news = bo.rests(lambda now: now["newest"] == 6)
     stays = bo.told()
     told("Bo stays at version 0 while Ann edits", gone and news and stays["shown"] == 0 and stays["count"] == 0 and not stays["isLive"], stays)
-    ann.wait(lambda page: page.points() > both[0])
     drawn = [ann.points(), bo.points()]
     sizes = [page.picture(folder / f"{name}.jpg") for name, page in (("ann", ann), ("bo-at-version-0", bo))]
-    right = min(both) > 500 and drawn[0] > both[0] and drawn[1] < both[1] / 2 and min(sizes) > 5000
+    right = made and min(both) > 500 and drawn[0] > both[0] and drawn[1] < both[1] / 2 and min(sizes) > 5000
     told(f"both are pictures: {both[0]} and {both[1]} bright points, then {drawn[0]} and {drawn[1]}", right, [both, drawn, sizes])
-    ann.wait(lambda page: any(person["version"] == 0 for person in page.told()["people"]))
-    told("Ann sees at which version Bo looks", any(person["name"] == "Bo" and person["version"] == 0 for person in ann.told()["people"]), ann.told()["people"])
+    sees = ann.wait(lambda now: any(person["name"] == "Bo" and person["version"] == 0 for person in now["people"]))
+    told("Ann sees at which version Bo looks", sees, ann.told()["people"])
     bo.click("newest")
-    told("the newest version again", bo.wait(lambda page: page.told()["shown"] == 6 and page.told()["count"] == ann.told()["count"]), bo.told())
+    count = ann.told()["count"]
+    told("the newest version again", bo.wait(lambda now: now["shown"] == 6 and now["count"] == count), bo.told())
 
 
 def files(server: Editor, ann: Page) -> None:
     """A VOX file is loaded as a model and stamped; saves and downloads are what the server has."""
-    ann.driver.find_element(By.ID, "file").send_keys(str(MODELS.parent / "letter.vox"))
-    loaded = ann.wait(lambda page: len(page.driver.find_elements(By.CSS_SELECTOR, "#models button")) == 5)
-    ann.wait(lambda page: page.driver.find_element(By.CSS_SELECTOR, "#brushes [aria-checked=true]").text.startswith("Stamp"))
+    ann.element("file").send_keys(str(MODELS.parent / "letter.vox"))
+    loaded = until(lambda: len(ann.driver.find_elements(By.CSS_SELECTOR, "#models button")) == 5 and ann.has_chosen("models", "4:"))
+    loaded = loaded and until(lambda: ann.has_chosen("brushes", "Stamp"))
     ann.keys(*[Keys.ARROW_LEFT] * 20, *[Keys.PAGE_DOWN] * 20, Keys.ENTER)
-    stamped = ann.wait(lambda page: page.told()["shown"] == 7)
+    stamped = ann.wait(lambda now: now["shown"] == 7)
     told("a VOX file is loaded and stamped", loaded and stamped and server.get("/journal.txt")[1].splitlines()[-2].startswith(b"7 0 7 stamp 4 "), ann.told())
     status, file = server.get("/world.dag")
     if status == 404:
         print("passed over: the file of versions, since neither the library nor a program here writes it", flush=True)
     else:
         told(f"the file of versions has {len(file)} bytes and all 8 versions", status == 200 and file[:4] == b"VDAG" and file[12] == 8, [status, file[:20]])
-    address = ann.driver.find_element(By.ID, "save").get_attribute("href")
+    address = ann.element("save").get_attribute("href")
     status, saved = server.get(address[len(server.url):])
     told("the version that is shown is saved as a VOX file", status == 200 and saved[:4] == b"VOX " and b"version=7" in address.encode(), [status, address])
 
@@ -162,12 +196,12 @@ def tools(server: Editor, ann: Page) -> None:
     ann.keys(Keys.ESCAPE, "m", Keys.ARROW_RIGHT, Keys.ENTER, Keys.ARROW_RIGHT, Keys.PAGE_UP, Keys.ENTER)
     ann.chord("c")
     ann.keys(*[Keys.ARROW_UP] * 20, Keys.ENTER)
-    copied = ann.wait(lambda page: page.told()["shown"] == newest + 1)
+    copied = ann.wait(lambda now: now["shown"] == newest + 1)
     told("a box is selected and copied", copied and b" copy " in server.get("/journal.txt")[1].splitlines()[-2], server.get("/journal.txt")[1][-80:])
     ann.keys(Keys.ESCAPE, "v")
-    canvas = ann.driver.find_element(By.ID, "world")
+    canvas = ann.element("world")
     webdriver.ActionChains(ann.driver).move_to_element_with_offset(canvas, 150, 60).click().perform()
-    placed = ann.wait(lambda page: page.told()["shown"] == newest + 2)
+    placed = ann.wait(lambda now: now["shown"] == newest + 2)
     words = server.get("/journal.txt")[1].splitlines()[-2].split()
     told("a click puts a voxel", placed and words[3] == b"fill" and words[7:10] == [b"1"] * 3, words)
     before = ann.told()["angle"]
@@ -177,7 +211,7 @@ def tools(server: Editor, ann: Page) -> None:
     mouse.move_by(80, 10)
     mouse.pointer_up(button=2)
     drag.perform()
-    told("the right button turns the world", abs(ann.told()["angle"] - before) > 0.2, [before, ann.told()["angle"]])
+    told("the right button turns the world", ann.wait(lambda now: abs(now["angle"] - before) > 0.2), [before, ann.told()["angle"]])
 
 
 def after_a_kill(server: Editor, ann: Page) -> None:
@@ -185,9 +219,9 @@ def after_a_kill(server: Editor, ann: Page) -> None:
     newest = ann.told()["newest"]
     server.kill()
     ann.keys("v", Keys.ESCAPE, *[Keys.ARROW_RIGHT] * 9, *[Keys.PAGE_UP] * 9, Keys.ENTER)
-    time.sleep(0.5)
+    waits = ann.wait(lambda now: now["asks"] == 1)
     server.begin()
-    back = ann.wait(lambda page: page.told()["shown"] == newest + 1)
+    back = waits and ann.wait(lambda now: now["shown"] == newest + 1)
     told("an edit that is made while the server is gone is made once it is back", back and server.health()["version"] == newest + 1, [newest, ann.told()])
 
 
@@ -198,11 +232,9 @@ async def build(server: Editor) -> Optional[str]:
         for person in people:
             await person.ask({"do": "hello", "name": person.name})
         for n, edit in enumerate(village()):
-            answer = await people[n % 2].ask(edit)
+            answer = await until_ok(people[n % 2], {**edit, "key": f"village-{n}"})
             if "ok" not in answer:
                 return f"{edit}: {answer}"
-            if n % 40 == 39:
-                await asyncio.sleep(0.7)
         for person in people:
             await person.leave()
     return None
@@ -212,12 +244,12 @@ async def pointed(server: Editor, page: Page, file: Path) -> None:
     """Takes the picture while two people point at the village."""
     async with aiohttp.ClientSession() as session:
         people = [await Person(session, server.url, name).enter() for name in ("Cleo", "Dan")]
-        for person, at in zip(people, ([66, 61, 14], [96, 40, 17])):
+        points = [[66, 61, 14], [96, 40, 17]]
+        for person, at in zip(people, points):
             await person.ask({"do": "hello", "name": person.name})
             await person.tell({"do": "point", "at": at})
         loop = asyncio.get_running_loop()
-        await loop.run_in_executor(None, page.wait, lambda page: sum(one["at"] is not None for one in page.told()["people"]) == 2)
-        await asyncio.sleep(0.5)
+        await loop.run_in_executor(None, page.rests, lambda now: [one["at"] for one in now["people"]] == [None, *points])
         await loop.run_in_executor(None, page.picture, file)
         for person in people:
             await person.leave()
@@ -227,7 +259,7 @@ def readme(server: Editor, page: Page, file: Path) -> None:
     """The picture for README: the village, with two people in it."""
     fault = asyncio.run(build(server))
     newest = server.health()["version"]
-    page.wait(lambda page: page.told()["shown"] == newest and page.told()["changed"] == 0, 60)
+    page.rests(lambda now: now["shown"] == newest)
     page.look(0.62, 0.5, 158, [66, 58, 2])
     asyncio.run(pointed(server, page, file))
     size = file.stat().st_size if file.is_file() else 0
@@ -237,29 +269,20 @@ def readme(server: Editor, page: Page, file: Path) -> None:
 
 def in_browser(work: Path, options: list[str], pictures: Path) -> None:
     pictures.mkdir(parents=True, exist_ok=True)
-    server = Editor(work, "browser", "--world", str(work / "browser.world"), *options)
-    village_server = Editor(work, "village", "--world", str(work / "village.world"), *options)
-    pages: list[Page] = []
-    try:
-        server.begin()
-        ann = Page(server, "Ann")
-        pages.append(ann)
-        bo = Page(server, "Bo")
-        pages.append(bo)
+    with contextlib.ExitStack() as ends:
+        server, lake = [Editor(work, name, "--world", str(work / f"{name}.world"), *options) for name in ("browser", "village")]
+        drivers = []
+        for each in (server, lake):
+            ends.callback(each.end)
+            each.begin()
+            drivers.append(browser())
+            ends.callback(drivers[-1].quit)
+        ann, bo = [Page(driver, server, name) for driver, name in zip(drivers, ("Ann", "Bo"))]
         edits_and_undo(ann, bo)
         old_version(ann, bo, pictures)
         files(server, ann)
         tools(server, ann)
-        told("no page complained", not ann.faults() + bo.faults(), ann.faults() + bo.faults())
+        complaints = ann.faults() + bo.faults()
+        told("no page complained", not complaints, complaints)
         after_a_kill(server, ann)
-        village_server.begin()
-        bo.driver.quit()
-        pages.remove(bo)
-        eve = Page(village_server, "Eve")
-        pages.append(eve)
-        readme(village_server, eve, pictures / "village.jpg")
-    finally:
-        for page in pages:
-            page.driver.quit()
-        server.end()
-        village_server.end()
+        readme(lake, Page(bo.driver, lake, "Eve"), pictures / "village.jpg")

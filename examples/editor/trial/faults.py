@@ -9,13 +9,13 @@ import sqlite3
 import time
 from pathlib import Path
 from random import Random
-from typing import Any
+from typing import Any, Optional
 
 import aiohttp
 
 from trial.loads import journals
-from trial.people import Kept, NoLine, Person, stubborn, until_ok
-from trial.started import Editor, Members, told
+from trial.people import Kept, NoLine, Person, answered, stubborn, until_ok
+from trial.started import Editor, Members, patience, told, until
 
 KILLS = 50
 WRITERS = 8
@@ -27,17 +27,23 @@ async def killed_often(server: Editor, kept: Kept, kills: int, seed: int) -> int
     async with aiohttp.ClientSession(connector=aiohttp.TCPConnector(limit=0)) as session:
         writers = [asyncio.ensure_future(stubborn(session, server.url, f"writer {n}", kept, Random(f"{seed} {n}"), 64, ended)) for n in range(WRITERS)]
         for _ in range(kills):
-            before, end = len(kept.versions), time.monotonic() + 10
-            while len(kept.versions) < before + 5 and time.monotonic() < end:
-                await asyncio.sleep(0.01)
+            if not await goes_on(kept):
+                break
             await asyncio.sleep(rng.random() * 0.25)
             server.kill()
             server.start()
             came += await asyncio.get_running_loop().run_in_executor(None, server.stands)
-        await asyncio.sleep(0.5)
         ended.set()
-        await asyncio.wait_for(asyncio.gather(*writers), 120)
+        await asyncio.wait_for(asyncio.gather(*writers), patience())
     return came
+
+
+async def goes_on(kept: Kept) -> bool:
+    """Whether five more edits are answered."""
+    before, end = len(kept.versions), time.monotonic() + patience()
+    while len(kept.versions) < before + 5 and time.monotonic() < end:
+        await asyncio.sleep(0.01)
+    return len(kept.versions) >= before + 5
 
 
 def kills(work: Path, options: list[str]) -> None:
@@ -79,15 +85,15 @@ async def with_fewer(servers: list[Editor], members: Members) -> None:
         told("each server follows the other", followed[0] == followed[1], followed)
         members.each[1].kill()
         begin = time.monotonic()
-        answer = await first.ask(fill(1, 2), 90)
+        answer = await answered(first, fill(1, 2))
         took = time.monotonic() - begin
         newest = answers[-1]["ok"]
-        asked = await asyncio.gather(*(person.ask({"do": "ask", "what": "count", "box": [0, 0, 0, 64, 64, 64]}) for person in (first, second)))
+        asked = await asyncio.gather(*(answered(person, {"do": "ask", "what": "count", "box": [0, 0, 0, 64, 64, 64]}) for person in (first, second)))
         told(f"two of three killed: an edit is refused as {answer.get('refused')} in {took:.1f} s, and reading goes on",
              answer.get("refused") == "log_down" and all(one["version"] == newest and one["count"] == 6 for one in asked), [answer, asked])
         for member in members.each[:2]:
             member.start()
-        members.stands()
+        await asyncio.get_running_loop().run_in_executor(None, members.stands)
         answers = [await until_ok(person, fill(9, n)) for n, person in enumerate((first, second))]
         told("the members are back: edits go on", all("ok" in answer for answer in answers), answers)
         for person in (first, second):
@@ -161,7 +167,7 @@ async def hostile(server: Editor, count: int, seed: int) -> list[Any]:
                 sent = broken(rng)
                 await (socket.send_bytes(sent) if isinstance(sent, bytes) else socket.send_str(sent))
                 while True:
-                    message = await asyncio.wait_for(socket.receive(), 30)
+                    message = await asyncio.wait_for(socket.receive(), patience())
                     answer = json.loads(message.data) if message.type == aiohttp.WSMsgType.TEXT else {"refused": str(message.type)}
                     if "say" not in answer:
                         break
@@ -200,13 +206,21 @@ async def at_the_door(server: Editor) -> list[str]:
         async with session.post(f"{server.url}/load", data=b"VOX no") as answer:
             if (await answer.json())["refused"] != "bad_file":
                 wrong.append("a file that is none")
-        async with session.ws_connect(f"{server.url}/ws") as socket:
-            await socket.send_str("x" * (2 << 20))
-            while (message := await asyncio.wait_for(socket.receive(), 30)).type == aiohttp.WSMsgType.TEXT:
-                pass
-            if socket.close_code not in (1006, 1009):
-                wrong.append(f"a message of 2 MB: {socket.close_code}")
+        if (code := await after_two_megabytes(session, server)) not in (1006, 1009):
+            wrong.append(f"a message of 2 MB: {code}")
     return wrong
+
+
+async def after_two_megabytes(session: aiohttp.ClientSession, server: Editor) -> Optional[int]:
+    """By which code the server closes a line by which a message of 2 MB comes. It may be gone before all of it was sent."""
+    async with session.ws_connect(f"{server.url}/ws") as socket:
+        try:
+            await socket.send_str("x" * (2 << 20))
+            while (await asyncio.wait_for(socket.receive(), patience())).type == aiohttp.WSMsgType.TEXT:
+                pass
+        except ConnectionError:
+            return 1006
+        return socket.close_code
 
 
 def bad_input(work: Path, options: list[str]) -> None:
@@ -220,12 +234,12 @@ def bad_input(work: Path, options: list[str]) -> None:
         doors = asyncio.run(at_the_door(server))
         told("wrong origins, hosts, files and a message of 2 MB are refused", not doors, doors)
         after = server.get("/journal.txt")[1]
-        told("the world is as before, and the server goes on", before == after and asyncio.run(goes_on(server)), f"{before!r} {after!r}")
+        told("the world is as before, and the server goes on", before == after and asyncio.run(takes_an_edit(server)), f"{before!r} {after!r}")
     finally:
         server.end()
 
 
-async def goes_on(server: Editor) -> bool:
+async def takes_an_edit(server: Editor) -> bool:
     async with aiohttp.ClientSession() as session:
         person = await Person(session, server.url, "somebody").enter()
         answer = await person.ask({"do": "fill", "box": [0, 0, 0, 2, 2, 2], "tint": 4})
@@ -233,11 +247,18 @@ async def goes_on(server: Editor) -> bool:
     return answer.get("ok") == 1
 
 
-async def too_fast(server: Editor) -> tuple[int, int]:
-    """How many of 1,000 messages at once are refused as too fast, and how a third person is answered."""
+MESSAGES = 1000
+RATE = 2
+
+
+async def too_fast(server: Editor) -> tuple[int, float, int]:
+    """How many of so many messages at once are refused as too fast, how many seconds they took, and how a third person is
+    answered."""
     async with aiohttp.ClientSession() as session:
         people = [await Person(session, server.url, "somebody").enter() for _ in range(2)]
-        answers = await asyncio.gather(*(people[0].ask({"do": "ask", "what": "bounds"}) for _ in range(1000)), return_exceptions=True)
+        begin = time.monotonic()
+        answers = await asyncio.gather(*(people[0].ask({"do": "ask", "what": "bounds"}) for _ in range(MESSAGES)))
+        took = time.monotonic() - begin
         try:
             status = 101
             await Person(session, server.url, "one too many").enter()
@@ -245,24 +266,25 @@ async def too_fast(server: Editor) -> tuple[int, int]:
             status = getattr(error.__cause__, "status", 0)
         for person in people:
             await person.leave()
-    return sum(isinstance(answer, dict) and answer.get("refused") == "too_fast" for answer in answers), status
+    return sum(answer.get("refused") == "too_fast" for answer in answers), took, status
 
 
 def bounds(work: Path, options: list[str]) -> None:
     """Rates, the number of people, and the token."""
-    server = Editor(work, "bounds", "--world", str(work / "bounds.world"), "--side", "64", "--people", "2", *options)
+    server = Editor(work, "bounds", "--world", str(work / "bounds.world"), "--side", "64", "--people", "2", "--rate", str(RATE), *options)
     try:
         server.begin()
-        refused, status = asyncio.run(too_fast(server))
-        told(f"of 1,000 messages at once {refused} are too fast; a third person of two is refused", 100 < refused < 770 and status == 503, f"{refused} {status}")
+        refused, took, status = asyncio.run(too_fast(server))
+        # Four seconds' messages are taken at once, and then as many as come in while all are read.
+        taken = MESSAGES - refused
+        told(f"of {MESSAGES} messages in {took:.1f} s, at {RATE} a second, {refused} are too fast", 4 * RATE <= taken <= 4 * RATE + RATE * took + 1, taken)
+        told("a third person of two is refused", status == 503, status)
     finally:
         server.end()
     server = Editor(work, "token", "--world", str(work / "token.world"), "--side", "64", "--token", "sesame", *options)
     try:
         server.start()
-        end = time.monotonic() + 40
-        while time.monotonic() < end and "http://" not in server.says():
-            time.sleep(0.05)
+        until(lambda: "http://" in server.says() or server.has_ended())
         got = [server.get(path)[0] for path in ("/", "/journal.txt", "/journal.txt?token=other", "/journal.txt?token=sesame", "/ws")]
         told("a token is asked for", got[:4] == [200, 401, 401, 200] and got[4] == 401, got)
     finally:

@@ -4,22 +4,19 @@ from __future__ import annotations
 
 import asyncio
 import subprocess
-import time
 from pathlib import Path
 from typing import Optional
 
 from trial.people import crowd
-from trial.started import Editor, Members, program, told
+from trial.started import Editor, Members, patience, program, told, until
 
 PEOPLE = 64
 EACH = 0.2
 
 
-def journals(servers: list[Editor], seconds: float = 20) -> list[bytes]:
+def journals(servers: list[Editor]) -> list[bytes]:
     """The servers' journals, once they have as many records."""
-    end = time.monotonic() + seconds
-    while time.monotonic() < end and len({server.health()["version"] for server in servers}) > 1:
-        time.sleep(0.1)
+    until(lambda: len({server.health()["version"] for server in servers}) == 1)
     return [server.get("/journal.txt")[1] for server in servers]
 
 
@@ -73,9 +70,9 @@ def audited(folder: Path, server: Editor) -> None:
         return
     words = [str(tool), "audit", "models.vox", "journal.txt", "script.txt"]
     lines = len((folder / "script.txt").read_bytes().splitlines())
-    said = subprocess.run(words, cwd=folder, capture_output=True, text=True, timeout=300)
+    said = subprocess.run(words, cwd=folder, capture_output=True, text=True, timeout=patience())
     told(f"voxdag audit of a session of {lines} lines: {said.stdout.strip()}", said.stdout == "yes\n", said.stdout + said.stderr)
     changed = (folder / "script.txt.out").read_bytes().replace(b" ok\n", b" log full\n", 1)
     (folder / "script.txt.out").write_bytes(changed)
-    said = subprocess.run(words, cwd=folder, capture_output=True, text=True, timeout=300)
+    said = subprocess.run(words, cwd=folder, capture_output=True, text=True, timeout=patience())
     told(f"voxdag audit of one wrong answer: {said.stdout.strip()}", said.stdout == "no\n", said.stdout + said.stderr)

@@ -12,6 +12,8 @@ from typing import Any, Optional
 
 import aiohttp
 
+from trial.started import patience
+
 BROKEN = (aiohttp.ClientError, ConnectionError, asyncio.TimeoutError, OSError)
 
 
@@ -28,38 +30,45 @@ class Person:
         self._next = 0
         self._open: dict[int, asyncio.Future[dict[str, Any]]] = {}
         self._reads: Optional[asyncio.Task[None]] = None
+        self._door = asyncio.Lock()
+        self.lines = 0
         self.welcome: dict[str, Any] = {}
-        self.heard: list[str] = []
-        self.keeps = False
 
     async def enter(self) -> "Person":
         """Opens a line, once. The welcome is read."""
         try:
-            self._socket = await self._session.ws_connect(f"{self._url}/ws", max_msg_size=1 << 26, timeout=30)
-            self.welcome = json.loads((await self._socket.receive(30)).data)
+            self._socket = await self._session.ws_connect(f"{self._url}/ws", max_msg_size=1 << 26)
+            self.welcome = json.loads((await self._socket.receive(patience())).data)
         except (*BROKEN, TypeError) as error:
             raise NoLine() from error
-        self._reads = asyncio.ensure_future(self._read())
+        self._reads = asyncio.ensure_future(self._read(self._socket))
+        self.lines += 1
         return self
 
-    async def _read(self) -> None:
-        """Hands answers to who waits for them. What the server says to all is only kept where that is wanted."""
-        async for message in self._socket:
-            if message.type != aiohttp.WSMsgType.TEXT:
-                continue
-            if message.data.startswith('{"id"'):
+    async def stay(self) -> None:
+        """Opens a new line where the last one broke."""
+        async with self._door:
+            if not self.has_line:
+                await self.enter()
+
+    async def _read(self, socket: aiohttp.ClientWebSocketResponse) -> None:
+        """Hands answers to who waits for them. What the server says to all is passed over."""
+        async for message in socket:
+            if message.type == aiohttp.WSMsgType.TEXT and message.data.startswith('{"id"'):
                 answer = json.loads(message.data)
                 waiting = self._open.pop(answer["id"], None)
                 if waiting is not None and not waiting.done():
                     waiting.set_result(answer)
-            elif self.keeps:
-                self.heard.append(message.data)
         for waiting in self._open.values():
             if not waiting.done():
                 waiting.set_exception(NoLine())
         self._open.clear()
 
-    async def ask(self, message: dict[str, Any], seconds: float = 60) -> dict[str, Any]:
+    @property
+    def has_line(self) -> bool:
+        return self._socket is not None and not self._socket.closed and self._reads is not None and not self._reads.done()
+
+    async def ask(self, message: dict[str, Any]) -> dict[str, Any]:
         """The answer to a message. A world without tints gets none."""
         if self.welcome.get("tints") is False:
             message = {field: value for field, value in message.items() if field != "tint"}
@@ -68,10 +77,10 @@ class Person:
         waiting: asyncio.Future[dict[str, Any]] = asyncio.get_running_loop().create_future()
         self._open[number] = waiting
         try:
-            if self._socket is None or self._socket.closed or (self._reads and self._reads.done()):
+            if not self.has_line:
                 raise NoLine()
             await self._socket.send_str(json.dumps({**message, "id": number}))
-            return await asyncio.wait_for(waiting, seconds)
+            return await asyncio.wait_for(waiting, patience())
         except BROKEN as error:
             raise NoLine() from error
         finally:
@@ -88,8 +97,8 @@ class Person:
             self._reads.cancel()
 
 
-def edits(rng: Random, side: int, tints: bool = True) -> Iterator[dict[str, Any]]:
-    """Small edits by chance, no two of them alike."""
+def edits(rng: Random, side: int, known: set[str]) -> Iterator[dict[str, Any]]:
+    """Small edits by chance. None is like another one, or like one that is known, in more than its tint."""
     while True:
         at = [rng.randrange(side - 6) for _ in range(3)]
         size = [rng.randrange(1, 6) for _ in range(3)]
@@ -104,7 +113,11 @@ def edits(rng: Random, side: int, tints: bool = True) -> Iterator[dict[str, Any]
             edit = {"do": "carve", "at": at, "radius": rng.randrange(4)}
         else:
             edit = {"do": "copy", "box": at + size, "to": [rng.randrange(side - 6) for _ in range(3)]}
-        if tints and edit["do"] in ("fill", "ball"):
+        text = json.dumps(edit)
+        if text in known:
+            continue
+        known.add(text)
+        if edit["do"] in ("fill", "ball"):
             edit["tint"] = rng.randrange(1, 256)
         yield edit
 
@@ -116,17 +129,19 @@ class Kept:
         self.versions: dict[str, int] = {}
         self.times: list[float] = []
         self.refused: list[dict[str, Any]] = []
-        self.sent = 0
+        self.known: set[str] = set()
+        self.sent = self.broken = 0
 
     def told(self) -> str:
         times = sorted(self.times) or [0.0]
-        return f"median {times[len(times) // 2]:.1f} ms, 99th of a hundred {times[len(times) * 99 // 100]:.1f} ms, slowest {times[-1]:.0f} ms"
+        broken = f", {self.broken} lines broke" if self.broken else ""
+        return f"median {times[len(times) // 2]:.1f} ms, 99th of a hundred {times[len(times) * 99 // 100]:.1f} ms, slowest {times[-1]:.0f} ms{broken}"
 
 
 async def work(person: Person, kept: Kept, rng: Random, side: int, each: float, seconds: float) -> None:
     """Makes an edit every so many seconds, whether those before it are answered or not."""
     begin, tasks = time.monotonic() + rng.random() * each, []
-    for n, edit in enumerate(edits(rng, side)):
+    for n, edit in enumerate(edits(rng, side, kept.known)):
         wait = begin + n * each - time.monotonic()
         if n * each >= seconds:
             break
@@ -147,14 +162,25 @@ async def one(person: Person, kept: Kept, edit: dict[str, Any]) -> None:
         kept.refused.append(answer)
 
 
-async def until_ok(person: Person, edit: dict[str, Any], seconds: float = 90) -> dict[str, Any]:
-    """The answer to an edit, which is made again under its key while the log can't be reached, as on a busy machine."""
-    end = time.monotonic() + seconds
+async def answered(person: Person, message: dict[str, Any]) -> dict[str, Any]:
+    """The answer to a message, which is sent again where the line broke."""
+    end = time.monotonic() + patience()
     while True:
         try:
-            answer = await person.ask(edit, seconds)
+            await person.stay()
+            return await person.ask(message)
         except NoLine:
-            return {"refused": "no answer"}
+            if time.monotonic() > end:
+                raise
+        await asyncio.sleep(0.3)
+
+
+async def until_ok(person: Person, edit: dict[str, Any]) -> dict[str, Any]:
+    """The answer to an edit, which is made again under its key where the line broke, and while the log can't be reached, as
+    on a busy machine."""
+    end = time.monotonic() + patience()
+    while True:
+        answer = await answered(person, edit)
         if answer.get("refused") not in ("log_down", "too_fast") or time.monotonic() > end:
             return answer
         await asyncio.sleep(0.3)
@@ -170,23 +196,21 @@ async def crowd(urls: list[str], count: int, each: float, seconds: float, side: 
         await asyncio.gather(*(work(person, kept, Random(f"{seed} {n}"), side, each, seconds) for n, person in enumerate(people)))
         for person in people:
             await person.leave()
+    kept.broken = sum(person.lines - 1 for person in people)
     return kept
 
 
 async def stubborn(session: aiohttp.ClientSession, url: str, name: str, kept: Kept, rng: Random, side: int, ended: asyncio.Event) -> None:
     """Makes one edit after another. One that isn't answered is sent again under its key, by a new line."""
-    person, source = Person(session, url, name), edits(rng, side)
-    is_here, message = False, None
+    person, source = Person(session, url, name), edits(rng, side, kept.known)
+    message = None
     while not (ended.is_set() and message is None):
         if message is None:
             message = {**next(source), "key": secrets.token_hex(8)}
         try:
-            if not is_here:
-                person = await Person(session, url, name).enter()
-                is_here = True
-            answer = await person.ask(message, 30)
+            await person.stay()
+            answer = await person.ask(message)
         except NoLine:
-            is_here = False
             await asyncio.sleep(0.05)
             continue
         if "ok" in answer:

@@ -3,8 +3,10 @@
 from __future__ import annotations
 
 import ctypes
+import http.client
 import json
 import os
+import random
 import shutil
 import signal
 import socket
@@ -14,13 +16,16 @@ import time
 import urllib.error
 import urllib.request
 from pathlib import Path
-from typing import Any, Optional
+from typing import Any, Callable, Optional
 
 HERE = Path(__file__).resolve().parent.parent
 ROOT = HERE.parent.parent
 MODELS = ROOT / "models/court.vox"
 
+LIBC = ctypes.CDLL(None)
+
 passed = failed = 0
+_ports: set[int] = set()
 
 
 def told(name: str, is_right: bool, why: object = "") -> bool:
@@ -32,15 +37,42 @@ def told(name: str, is_right: bool, why: object = "") -> bool:
     return bool(is_right)
 
 
+def patience() -> float:
+    """For how many seconds something is awaited. It bounds the time of a test that fails, and decides nothing else: a
+    machine that is ten times slower than the one on which the tests were written needs a tenth of it."""
+    return 60.0 if failed else 600.0
+
+
+def until(is_so: Callable[[], bool], each: float = 0.1) -> bool:
+    """Waits until it is so, and says whether it came."""
+    end = time.monotonic() + patience()
+    while not is_so():
+        if time.monotonic() > end:
+            return False
+        time.sleep(each)
+    return True
+
+
 def free_port() -> int:
-    with socket.socket() as asked:
-        asked.bind(("127.0.0.1", 0))
-        return asked.getsockname()[1]
+    """A port that nobody listens at, and that the system gives to no line that goes out: a server that is killed can be
+    started there again."""
+    low, high = map(int, Path("/proc/sys/net/ipv4/ip_local_port_range").read_text().split())
+    ports = [port for port in range(10_000, 65_536) if not low <= port <= high] or [*range(10_000, 65_536)]
+    while True:
+        port = random.SystemRandom().choice(ports)
+        with socket.socket() as asked:
+            try:
+                asked.bind(("127.0.0.1", port))
+            except OSError:
+                continue
+        if port not in _ports:
+            _ports.add(port)
+            return port
 
 
 def end_with_parent() -> None:
     """Has the system end this process where the test that started it is killed."""
-    ctypes.CDLL(None).prctl(1, signal.SIGKILL)
+    LIBC.prctl(1, signal.SIGKILL)
 
 
 class Started:
@@ -65,7 +97,7 @@ class Started:
             return
         self.process.send_signal(signal.SIGTERM)
         try:
-            self.process.wait(20)
+            self.process.wait(patience())
         except subprocess.TimeoutExpired:
             self.kill()
 
@@ -85,7 +117,7 @@ class Editor(Started):
     def get(self, path: str, **headers: str) -> tuple[int, bytes]:
         asked = urllib.request.Request(self.url + path, headers=headers)
         try:
-            with urllib.request.urlopen(asked, timeout=30) as answer:
+            with urllib.request.urlopen(asked, timeout=patience()) as answer:
                 return answer.status, answer.read()
         except urllib.error.HTTPError as error:
             return error.code, error.read()
@@ -93,16 +125,18 @@ class Editor(Started):
     def health(self) -> dict[str, Any]:
         return json.loads(self.get("/health")[1])
 
-    def stands(self, seconds: float = 120) -> bool:
+    def answers(self) -> bool:
+        try:
+            return "version" in self.health()
+        except (OSError, ValueError, http.client.HTTPException):
+            return False
+
+    def has_ended(self) -> bool:
+        return self.process is None or self.process.poll() is not None
+
+    def stands(self) -> bool:
         """Waits until it answers."""
-        end = time.monotonic() + seconds
-        while time.monotonic() < end and self.process is not None and self.process.poll() is None:
-            try:
-                self.health()
-                return True
-            except (OSError, ValueError):
-                time.sleep(0.05)
-        return False
+        return until(lambda: self.answers() or self.has_ended(), 0.05) and not self.has_ended()
 
     def begin(self) -> None:
         self.start()
@@ -124,7 +158,7 @@ class Members:
                 "--listen-client-urls", f"http://{self.hosts[n]}", "--advertise-client-urls", f"http://{self.hosts[n]}",
                 "--listen-peer-urls", f"http://{peers[n]}", "--initial-advertise-peer-urls", f"http://{peers[n]}",
                 "--initial-cluster", all_of_them, "--initial-cluster-state", "new", "--initial-cluster-token", "editor",
-                "--heartbeat-interval", "200", "--election-timeout", "2000",
+                "--heartbeat-interval", "500", "--election-timeout", "5000",
             ]
             self.each.append(Started(words, work / f"etcd-{n}.log"))
 
@@ -132,19 +166,17 @@ class Members:
         for member in self.each:
             member.start()
 
-    def stands(self, seconds: float = 60) -> bool:
-        """Waits until there is a leader."""
-        end = time.monotonic() + seconds
-        while time.monotonic() < end:
-            for host in self.hosts:
-                try:
-                    with urllib.request.urlopen(f"http://{host}/health", timeout=2) as answer:
-                        if json.loads(answer.read()).get("health") in ("true", True):
-                            return True
-                except (OSError, ValueError):
-                    pass
-            time.sleep(0.2)
-        return False
+    def is_well(self, host: str) -> bool:
+        """Whether a member answers that it has a leader."""
+        try:
+            with urllib.request.urlopen(f"http://{host}/health", timeout=20) as answer:
+                return json.loads(answer.read()).get("health") in ("true", True)
+        except (OSError, ValueError, http.client.HTTPException):
+            return False
+
+    def stands(self) -> bool:
+        """Waits until all members have a leader."""
+        return until(lambda: all(map(self.is_well, self.hosts)), 0.2)
 
     def end(self) -> None:
         for member in self.each:
