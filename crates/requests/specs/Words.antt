@@ -1,7 +1,6 @@
 -- The words after the program's name, and what they ask for.
 use Rattle.std.specs.Prelude.{ℕ, ◌^◌, ◌==◌, ◌&&◌, not, nat_le, if◌then◌else◌, List, [], ◌∷◌, Bool, true, false, find, length, replicate, Option, Some, None, Result, Ok, Err, codes}
 use Rattle.std.specs.List.{list_all}
-use Rattle.std.specs.Option.{option_map}
 use Rattle.std.specs.Str.{bytes_eq}
 use Rattle.script.specs.declared.faults.ScriptKind.{ScriptKind}
 use Rattle.script.specs.Numbers.{number_of}
@@ -14,10 +13,10 @@ use Rattle.requests.specs.Questions.{question_in}
 use Rattle.requests.specs.declared.orders.Request.{Request}
 use Rattle.requests.specs.declared.orders.Request.TheVariants.{Count, Run, Demo, Flood, Scene, Dag, Look, Audit}
 
--- `FILE` alone
-abbrev pub one_file : List (List ℕ) → Option (List ℕ)
-one_file (file ∷ []) = if is_operand file then Some file else None
-one_file _ = None
+-- `count FILE`
+abbrev pub counted : List (List ℕ) → Option Request
+counted (file ∷ []) = if is_operand file then Some (Count file) else None
+counted _ = None
 
 -- a number of 1 to 6 digits, as a word
 abbrev pub ok_number : Result ℕ ScriptKind → Option ℕ
@@ -26,11 +25,6 @@ ok_number (Err kind) = None
 
 abbrev pub short_number : List ℕ → Option ℕ
 short_number word = if nat_le (length word) 6 then ok_number (number_of word) else None
-
--- `N` alone
-abbrev pub one_number : List (List ℕ) → Option ℕ
-one_number (number ∷ []) = short_number number
-one_number _ = None
 
 -- the exponent of a side from 4 to 4,096
 abbrev pub exponent_of : ℕ → Option ℕ
@@ -132,6 +126,15 @@ abbrev pub run_line_texts : List (List ℕ) → Option LineTexts
 run_line_texts [] = None
 run_line_texts (command ∷ others) =
     if bytes_eq command (codes "run") then run_texts others else None
+
+-- `demo N`
+abbrev pub demo_of : Option ℕ → Option Request
+demo_of None = None
+demo_of (Some n) = Some (Demo n)
+
+abbrev pub demo_words : List (List ℕ) → Option Request
+demo_words (number ∷ []) = demo_of (short_number number)
+demo_words _ = None
 
 -- `flood FILE m x y z OUT`, each number of 1 to 6 digits
 abbrev pub flood_with : List ℕ → Option ℕ → Option ℕ → Option ℕ → Option ℕ → List ℕ
@@ -241,35 +244,22 @@ look_words (dag ∷ version ∷ name ∷ numbers) =
     else None
 look_words _ = None
 
--- ---- the table: a command's word, and what the words behind it ask for
+-- what the words ask for, where they are in the grammar: `count FILE`; `demo N`;
+-- `flood FILE m x y z OUT`; `scene FILE OUT SCRIPT`; `dag FILE JOURNAL OUT`;
+-- `look DAG v` and a question; `audit [--buckets b] [--keep k] FILE JOURNAL SCRIPT ..`;
+-- or `run`, and behind it in any order FILE SCRIPT .. and at most once each `--side s`,
+-- `--buckets b`, `--cap c`, `--keep k`, `--journal J`, `--report P` and `--colours`
+abbrev pub named_request : List ℕ → List (List ℕ) → Option Request
+named_request command others =
+    if bytes_eq command (codes "count") then counted others
+    else (if bytes_eq command (codes "run") then parse_run (run_texts others)
+    else (if bytes_eq command (codes "demo") then demo_words others
+    else (if bytes_eq command (codes "flood") then flood_words others
+    else (if bytes_eq command (codes "scene") then scene_words others
+    else (if bytes_eq command (codes "dag") then dag_words others
+    else (if bytes_eq command (codes "look") then look_words others
+    else (if bytes_eq command (codes "audit") then audit_words others else None)))))))
 
-pub record Form : Type 0 where
-  pub command : List ℕ
-  pub asks : List (List ℕ) → Option Request
-
--- `count FILE`; `demo N`; `flood FILE m x y z OUT`; `scene FILE OUT SCRIPT`;
--- `dag FILE JOURNAL OUT`; `look DAG v` and a question;
--- `audit [--buckets b] [--keep k] FILE JOURNAL SCRIPT ..`; or `run`, and behind it in any order
--- FILE SCRIPT .. and at most once each `--side s`, `--buckets b`, `--cap c`, `--keep k`,
--- `--journal J`, `--report P` and `--colours`
-abbrev pub forms : List Form
-forms =
-    record { command = codes "count"; asks = λ words. option_map Count (one_file words) }
-    ∷ record { command = codes "run"; asks = λ words. parse_run (run_texts words) }
-    ∷ record { command = codes "demo"; asks = λ words. option_map Demo (one_number words) }
-    ∷ record { command = codes "flood"; asks = flood_words }
-    ∷ record { command = codes "scene"; asks = scene_words }
-    ∷ record { command = codes "dag"; asks = dag_words }
-    ∷ record { command = codes "look"; asks = look_words }
-    ∷ record { command = codes "audit"; asks = audit_words } ∷ []
-
--- what the first form of this command's word asks for
-abbrev pub asked_by : List Form → List ℕ → List (List ℕ) → Option Request
-asked_by [] command words = None
-asked_by (form ∷ others) command words =
-    if bytes_eq command form.command then form.asks words else asked_by others command words
-
--- what the words ask for, where they are in the grammar
 abbrev pub request_of : List (List ℕ) → Option Request
 request_of [] = None
-request_of (command ∷ words) = asked_by forms command words
+request_of (command ∷ others) = named_request command others

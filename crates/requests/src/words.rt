@@ -4,7 +4,7 @@ ghost use Rattle.std.specs.Option.{option_map};
 ghost use Rattle.requests.specs.command_line.Texts.{texts};
 ghost use Rattle.requests.specs.command_line.Parts.{is_operand};
 ghost use Rattle.requests.specs.ScriptNames.{scripts_asked};
-ghost use Rattle.requests.specs.Words.{request_of, run_texts, run_line_texts, asked_by, forms, one_file, one_number, parse_run, run_planned, flood_words, scene_words, dag_words, look_words, audit_words, audit_unjudged, audit_of, audit_by, audit_judged, audit_kept, buckets_of, is_number_of_scripts, exponent_of, short_number, keep_of, keep_or_default, checked_plan, side_read, side_or_default, store_of, store_of_option, cap_or_default, plan_by_number, plan_by_word, plan_of_options, plan_of_line};
+ghost use Rattle.requests.specs.Words.{request_of, run_texts, run_line_texts, named_request, counted, parse_run, run_planned, demo_of, flood_words, scene_words, dag_words, look_words, audit_words, audit_unjudged, audit_of, audit_by, audit_judged, audit_kept, buckets_of, is_number_of_scripts, demo_words, exponent_of, short_number, keep_of, keep_or_default, checked_plan, side_read, side_or_default, store_of, store_of_option, cap_or_default, plan_by_number, plan_by_word, plan_of_options, plan_of_line};
 
 use crate::command_line::{Line, are_of_a_run, is_operand, split};
 use crate::orders::{
@@ -59,19 +59,17 @@ fn named_request<'w>(
 ) -> Option<Request<'w>>
     requires line { line.now ≡ run_line_texts (command.now ∷ texts words.now) }
     requires few { IfSome line.now (λ l. length l.operands ≤ 65) }
-    ensures asked { result ≡ asked_by forms command.now (texts words.now) }
+    ensures asked { result ≡ named_request command.now (texts words.now) }
     ensures few { IfSome result (λ a. length (scripts_asked a) ≤ 64) }
 {
     if command == "count" {
-        let file = one_file(words)?;
-        return Some(Request::Count(file));
+        return parse_count(words);
     }
     if command == "run" {
         return parse_run(line);
     }
     if command == "demo" {
-        let number = one_number(words)?;
-        return Some(Request::Demo(number));
+        return parse_demo(words);
     }
     if command == "flood" {
         return parse_flood(words);
@@ -91,24 +89,18 @@ fn named_request<'w>(
     None
 }
 
-// `FILE` alone.
-fn one_file(words: &[String]) -> Option<FileName<'_>>
-    ensures { result ≡ one_file (texts words.now) }
+// `FILE`, the words of `count`.
+fn parse_count(words: &[String]) -> Option<Request<'_>>
+    ensures asked { result ≡ counted (texts words.now) }
+    ensures few { IfSome result (λ a. length (scripts_asked a) ≤ 64) }
 {
     match words {
-        [file] if is_operand(file.as_str()) => Some(FileName {
-            text: file.as_str(),
-        }),
-        _ => None,
-    }
-}
-
-// `N` alone.
-fn one_number(words: &[String]) -> Option<u32>
-    ensures { result ≡ one_number (texts words.now) }
-{
-    match words {
-        [number] => short_number(number.as_str()),
+        [file] if is_operand(file.as_str()) => {
+            let file = FileName {
+                text: file.as_str(),
+            };
+            Some(Request::Count(file))
+        }
         _ => None,
     }
 }
@@ -146,6 +138,26 @@ fn run_planned<'w>(plan: Option<Plan>, keep: Option<u32>, line: &'w Line<'w>) ->
             };
             Some(Request::Run(order))
         }
+    }
+}
+
+// `N`, the words of `demo`.
+fn parse_demo(words: &[String]) -> Option<Request<'_>>
+    ensures asked { result ≡ demo_words (texts words.now) }
+    ensures few { IfSome result (λ a. length (scripts_asked a) ≤ 64) }
+{
+    match number_in(words) {
+        Some(n) => Some(Request::Demo(n)),
+        None => None,
+    }
+}
+
+fn number_in(words: &[String]) -> Option<u32>
+    ensures { demo_of result ≡ demo_words (texts words.now) }
+{
+    match words {
+        [number] => short_number(number.as_str()),
+        _ => None,
     }
 }
 
