@@ -52,7 +52,7 @@ const FIRST_ROOM: usize = 1_024;
 /// room for.
 #[derive(Drop)]
 pub struct OpenWorld {
-    versions: Versions,
+    pub(crate) versions: Versions,
 }
 
 impl Model for OpenWorld {
