@@ -348,13 +348,25 @@ def command(arguments: Optional[list[str]] = None) -> argparse.Namespace:
     return words
 
 
+def shows_tints() -> bool:
+    """Whether the library tells what can be seen of a world with tints."""
+    if not voxdag.load().exports("fill_tint"):
+        return False
+    with voxdag.World(4, tints=True) as world:
+        try:
+            world.surface_bytes(0, (0, 0, 0, 4, 4, 4))
+        except voxdag.OtherKind:
+            return False
+    return True
+
+
 async def serve(words: argparse.Namespace) -> None:
     log = FileLog(words.world) if words.world else SharedLog(words.etcd, words.name)
     room = Room(log, voxdag.slow.World if words.slow else voxdag.World)
     models = words.models.read_bytes() if words.models else b""
-    has_tints = words.slow or voxdag.load().exports("fill_tint")
+    has_tints = words.slow or shows_tints()
     if not (has_tints or words.plain):
-        print("this library has no tints: cells of a new world are set or clear", flush=True)
+        print("this library shows no tints: cells of a new world are set or clear", flush=True)
     await room.open(About(words.side, has_tints and not words.plain, words.cap), models)
     server = Server(room, words)
     runner = web.AppRunner(server.app(), access_log=None)

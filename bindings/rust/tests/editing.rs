@@ -105,3 +105,23 @@ fn a_world_is_gone_on_with() -> Result<(), Refusal> {
     assert_eq!(no_journal.err(), Some(Refusal::NotLegal { line: 3 }));
     Ok(())
 }
+
+#[cfg(all(voxdag = "open_as", voxdag = "fill_tint", voxdag = "colour"))]
+#[test]
+fn cells_have_tints() -> Result<(), Refusal> {
+    use voxdag::Plan;
+    let one = boxed(place(1, 1, 1), place(1, 1, 1));
+    let mut world = World::open_as(&Plan { side: 8, tints: 1, ..Plan::default() }, &[])?;
+    assert_eq!(world.fill_tint(one, 7)?, 1);
+    assert_eq!(world.fill(one)?, 2);
+    assert_eq!(world.ball_tint(place(1, 1, 1), 0, 7)?, 3);
+    assert_eq!((world.colour(0, one.at)?, world.colour(1, one.at)?, world.colour(2, one.at)?), (0, 7, 1));
+    assert!(world.same(1, 3)? && !world.same(1, 2)?);
+    assert_eq!(world.fill_tint(one, 0), Err(Refusal::BadTint));
+    // The colour of the one cell is the last byte of its file.
+    assert_eq!(world.save(1, one)?.last(), Some(&7));
+    let mut later = World::open_journal(&Plan::default(), &[], &world.journal()?)?;
+    assert_eq!(later.colour(3, one.at)?, 7);
+    assert_eq!(World::open(8, 0, &[])?.fill_tint(one, 7), Err(Refusal::OtherKind));
+    Ok(())
+}

@@ -1,5 +1,5 @@
 -- How a legal history is replayed with its marks, in the order of their moments.
-use Rattle.std.specs.Prelude.{◌≡◌, ◌≢◌, ℕ, ◌^◌, ◌<◌, ◌≤◌, false, List, take, drop, length, All, Result, IfOk}
+use Rattle.std.specs.Prelude.{◌≡◌, ◌≢◌, ℕ, ◌^◌, ◌<◌, ◌≤◌, List, take, drop, length, All, Result, IfOk}
 use Rattle.std.specs.List.{AllPairs, Contains}
 use Rattle.vox_read.specs.Contents.{AreModels, Content}
 use Rattle.history_model.specs.declared.histories.Mark.{Mark}
@@ -28,14 +28,6 @@ pub record MayReplayStored (ms : List Content) (log : Log) : Type 0 where
   pub models : AreModels ms
   pub suits : SuitsTints log
   pub large : IsLargeStore log.coloured log.side
-  pub marks : AreLegalMarks (length log.records) log.marks
-  pub records : AreLegalRecords (2 ^ log.side) ms log.marks log.records
-
--- the history keeps the rules, and its cells have no tints
-pub record MayReplayPlain (ms : List Content) (log : Log) : Type 0 where
-  pub models : AreModels ms
-  pub suits : SuitsTints log
-  pub plain : log.coloured ≡ false
   pub marks : AreLegalMarks (length log.records) log.marks
   pub records : AreLegalRecords (2 ^ log.side) ms log.marks log.records
 

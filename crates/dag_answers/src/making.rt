@@ -1,5 +1,5 @@
 //! The file of the versions of a history.
-ghost use Rattle.std.specs.Prelude.{◌≡◌, ◌+◌, ◌^◌, ◌-◌, ◌<◌, ◌≤◌, [], false, All, IfOk, IfErr, OnOk, drop, length};
+ghost use Rattle.std.specs.Prelude.{◌≡◌, ◌+◌, ◌^◌, ◌-◌, ◌<◌, ◌≤◌, [], All, IfOk, IfErr, OnOk, drop, length};
 ghost use Rattle.std.specs.List.{AllPairs};
 ghost use Rattle.vox_read.specs.Contents.{AreModels};
 ghost use Rattle.history_model.specs.Logs.{SuitsTints};
@@ -10,7 +10,7 @@ ghost use Rattle.store_run.specs.Replaying.{AreLegalRecords, replay_plan};
 ghost use Rattle.dag_answers.specs.Histories.{IsFileOfHistory, RefusesHistory, RefusesHistoryOver, of_replay};
 ghost use Rattle.dag_file.specs.Lists.{HoldsList, DoNumbersRise, AreNumbersSmall, IsFileOfList};
 ghost use Rattle.dag_answers.specs.Replays.{AreDue, AreDueMarks, GivesWorldOf, HasReplayed};
-ghost use Rattle.dag_answers.specs.Replays.{MayReplayPlain, MayReplayStored};
+ghost use Rattle.dag_answers.specs.Replays.{MayReplayStored};
 
 use crate::legality::first_illegal;
 use dag_file::write_dag;
@@ -98,7 +98,7 @@ pub fn world_of_history(
 ) -> Result<OpenWorld, HistoryRefused>
     requires models { AreModels models }
     requires suits { SuitsTints history.now }
-    requires plain { history.now.coloured ≡ false }
+    requires large { IsLargeStore history.now.coloured history.now.side }
     requires marks { AreLegalMarks (length history.now.records) history.now.marks }
     requires side { plan.now.side ≡ history.now.side }
     ensures plan { IfOk result (λ w. w.plan ≡ plan.now) }
@@ -122,7 +122,7 @@ fn world_over<L: Ledger>(
     plan: &Plan,
     blank: Blank,
 ) -> Result<OpenWorld, HistoryRefused>
-    requires replays { MayReplayPlain models history.now }
+    requires replays { MayReplayStored models history.now }
     requires side { plan.now.side ≡ history.now.side }
     requires name { blank.name ≡ L.name }
     requires parts { blank.parts ≡ L.parts }

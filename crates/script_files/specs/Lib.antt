@@ -1,8 +1,9 @@
-pub mod TintFiles
+pub use Rattle.audit.specs.TintFiles
 pub mod Requests
 pub mod Reports
 pub mod Runs
 pub mod Demos
+pub mod Judged
 pub mod Commands
 pub mod Stages
 pub mod RunsAudited

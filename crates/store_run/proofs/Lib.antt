@@ -20,3 +20,4 @@ pub mod Followed
 pub mod Taken
 pub mod Listed
 pub mod Lent
+pub mod TintFiles

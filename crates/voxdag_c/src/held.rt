@@ -17,6 +17,7 @@ mod places;
 mod plans;
 mod shown;
 pub mod statuses;
+mod tints;
 mod worlds;
 
 pub use handle::{Handle, handles_cross};
