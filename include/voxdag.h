@@ -21,8 +21,8 @@
  * none.
  *
  * MEMORY. A world takes all memory of its store when it is opened (docs/LIBRARY.md says how much).
- * Opening, any change, saving, surfaces, regions and the journal may answer VOXDAG_NO_MEMORY at any
- * time, and then nothing changed: that memory is there is nothing a library can promise. Closing,
+ * Opening, any change, saving, surfaces, regions, the journal and the file of versions may answer
+ * VOXDAG_NO_MEMORY at any time, and then nothing changed: that memory is there is nothing a library can promise. Closing,
  * forgetting and questions never do. No call ends the program, waits or prints. malloc, realloc and free are those
  * of the program: of one allocator, and aligned as C asks.
  *
@@ -118,6 +118,7 @@ voxdag_status voxdag_c_undo(voxdag_world *w);
 voxdag_status voxdag_c_redo(voxdag_world *w);
 voxdag_status voxdag_c_forget(voxdag_world *w, uint32_t version);
 voxdag_status voxdag_c_newest(voxdag_world *w, uint32_t *version);
+voxdag_status voxdag_c_about(voxdag_world *w, voxdag_plan *plan);
 voxdag_status voxdag_c_model_size(voxdag_world *w, uint16_t model, voxdag_place *size);
 voxdag_status voxdag_c_get(voxdag_world *w, uint32_t version, const voxdag_place *at, bool *set);
 voxdag_status voxdag_c_colour(voxdag_world *w, uint32_t version, const voxdag_place *at, uint8_t *tint);
@@ -129,6 +130,7 @@ voxdag_status voxdag_c_ray(voxdag_world *w, uint32_t version, const voxdag_place
 voxdag_status voxdag_c_same(voxdag_world *w, uint32_t a, uint32_t b, bool *same);
 voxdag_status voxdag_c_save(voxdag_world *w, uint32_t version, const voxdag_box *part, uint8_t *out, size_t size, size_t *needed);
 voxdag_status voxdag_c_journal(voxdag_world *w, uint8_t *out, size_t size, size_t *needed);
+voxdag_status voxdag_c_dag(voxdag_world *w, uint8_t *out, size_t size, size_t *needed);
 voxdag_status voxdag_c_changes(voxdag_world *w, uint32_t a, uint32_t b, bool *some, voxdag_box *least);
 voxdag_status voxdag_c_surface(voxdag_world *w, uint32_t version, const voxdag_box *part, voxdag_shown *out, size_t room,
                                size_t *needed);
@@ -318,6 +320,14 @@ static inline voxdag_status voxdag_newest(voxdag_world *w, uint32_t *version)
     return voxdag_c_newest(w, version);
 }
 
+/* How the world is open: its side, its cap as a number from 1 to 256, how many versions it keeps, and
+ * whether its cells have tints. */
+static inline voxdag_status voxdag_about(voxdag_world *w, voxdag_plan *plan)
+{
+    if (!w || !plan) return VOXDAG_NULL;
+    return voxdag_c_about(w, plan);
+}
+
 /* The size of a model. NO_MODEL exactly where there is none of this number, counted from 0. */
 static inline voxdag_status voxdag_model_size(voxdag_world *w, uint32_t model, voxdag_place *size)
 {
@@ -465,6 +475,15 @@ static inline voxdag_status voxdag_journal(voxdag_world *w, uint8_t *out, size_t
     uint8_t none = 0;
     if (!w || !needed || (!out && size)) return VOXDAG_NULL;
     return voxdag_c_journal(w, out ? out : &none, size, needed);
+}
+
+/* The file of all versions that aren't forgotten (docs/DAG_FILES.md): the bytes that `voxdag dag` makes
+ * of the world's journal, as no other file has these versions. */
+static inline voxdag_status voxdag_dag(voxdag_world *w, uint8_t *out, size_t size, size_t *needed)
+{
+    uint8_t none = 0;
+    if (!w || !needed || (!out && size)) return VOXDAG_NULL;
+    return voxdag_c_dag(w, out ? out : &none, size, needed);
 }
 
 #ifdef __cplusplus

@@ -27,7 +27,7 @@ void *__wrap_realloc(void *old, size_t size)
 static const voxdag_box part = {{0, 0, 0}, {8, 8, 8}};
 static const voxdag_place far = {7, 7, 7};
 
-/* Opens, fills, saves and shows with the nth allocation failing. 0: none failed; 1: told as it should be; 2: wrong. */
+/* Opens, fills, saves, shows and lists versions with the nth allocation failing. 0: none failed; 1: told as it should be; 2: wrong. */
 static int session(long n)
 {
     voxdag_world w = VOXDAG_CLOSED;
@@ -65,6 +65,13 @@ static int session(long n)
         failed = 1;
         if (cells || needed != 7 || voxdag_flood(&w, 1500, &part, &far, &cells, out, sizeof out, &needed)) return 2;
     } else if (s != VOXDAG_OK) return 2;
+    needed = 7;
+    s = voxdag_dag(&w, out, sizeof out, &needed);
+    if (s == VOXDAG_NO_MEMORY) {
+        failed = 1;
+        /* The file has 8 bytes for each of 1,501 versions, and more. */
+        if (needed != 7 || voxdag_dag(&w, out, sizeof out, &needed) != VOXDAG_TOO_SMALL) return 2;
+    } else if (s != VOXDAG_TOO_SMALL) return 2;
     needed = 7;
     s = voxdag_journal(&w, out, sizeof out, &needed);
     if (s == VOXDAG_NO_MEMORY) {

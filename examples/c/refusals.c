@@ -40,6 +40,7 @@ static int nulls(voxdag_world *w)
     size_t needed = 7;
     uint8_t out[8] = {0};
     voxdag_shown seen[2] = {{7, 7, 7, 7, 7}, {7, 7, 7, 7, 7}};
+    voxdag_plan plan = {7, 7, 7, 7};
     voxdag_place p = in;
     voxdag_box b = good;
     SAYS(VOXDAG_NULL, voxdag_open(NULL, 64));
@@ -69,6 +70,8 @@ static int nulls(voxdag_world *w)
     SAYS(VOXDAG_NULL, voxdag_flood(NULL, 0, &b, &p, &n, out, 8, &needed)); SAYS(VOXDAG_NULL, voxdag_flood(w, 0, NULL, &p, &n, out, 8, &needed));
     SAYS(VOXDAG_NULL, voxdag_flood(w, 0, &b, NULL, &n, out, 8, &needed)); SAYS(VOXDAG_NULL, voxdag_flood(w, 0, &b, &p, NULL, out, 8, &needed));
     SAYS(VOXDAG_NULL, voxdag_flood(w, 0, &b, &p, &n, NULL, 8, &needed)); SAYS(VOXDAG_NULL, voxdag_flood(w, 0, &b, &p, &n, out, 8, NULL));
+    SAYS(VOXDAG_NULL, voxdag_dag(NULL, out, 8, &needed)); SAYS(VOXDAG_NULL, voxdag_dag(w, NULL, 8, &needed)); SAYS(VOXDAG_NULL, voxdag_dag(w, out, 8, NULL));
+    SAYS(VOXDAG_NULL, voxdag_about(NULL, &plan)); SAYS(VOXDAG_NULL, voxdag_about(w, NULL)); IS(plan.side == 7);
     SAYS(VOXDAG_NULL, voxdag_journal(NULL, out, 8, &needed)); SAYS(VOXDAG_NULL, voxdag_journal(w, NULL, 8, &needed)); SAYS(VOXDAG_NULL, voxdag_journal(w, out, 8, NULL));
     IS(is && v == 7 && n == 7 && needed == 7 && b.size.x == 8 && seen[0].x == 7);
     return 0;
@@ -83,6 +86,7 @@ static int closed(voxdag_world *w)
     size_t needed = 7;
     uint8_t out[8] = {0};
     voxdag_shown seen[2] = {{7, 7, 7, 7, 7}, {7, 7, 7, 7, 7}};
+    voxdag_plan plan = {7, 7, 7, 7};
     voxdag_place p = in, hit = in;
     voxdag_box b = good;
     SAYS(VOXDAG_IS_CLOSED, voxdag_close(w)); SAYS(VOXDAG_IS_CLOSED, voxdag_fill(w, &b)); SAYS(VOXDAG_IS_CLOSED, voxdag_erase(w, &b));
@@ -92,7 +96,8 @@ static int closed(voxdag_world *w)
     SAYS(VOXDAG_IS_CLOSED, voxdag_get(w, 0, &p, &is)); SAYS(VOXDAG_IS_CLOSED, voxdag_count(w, 0, &b, &n)); SAYS(VOXDAG_IS_CLOSED, voxdag_faces(w, 0, &b, &n));
     SAYS(VOXDAG_IS_CLOSED, voxdag_bounds(w, 0, &is, &b)); SAYS(VOXDAG_IS_CLOSED, voxdag_ray(w, 0, &p, 1, 0, 0, &is, &hit));
     SAYS(VOXDAG_IS_CLOSED, voxdag_same(w, 0, 0, &is)); SAYS(VOXDAG_IS_CLOSED, voxdag_save(w, 0, &b, out, 8, &needed));
-    SAYS(VOXDAG_IS_CLOSED, voxdag_journal(w, out, 8, &needed));
+    SAYS(VOXDAG_IS_CLOSED, voxdag_journal(w, out, 8, &needed)); SAYS(VOXDAG_IS_CLOSED, voxdag_dag(w, out, 8, &needed));
+    SAYS(VOXDAG_IS_CLOSED, voxdag_about(w, &plan)); IS(plan.side == 7 && plan.cap == 7 && plan.keep == 7 && plan.tints == 7);
     SAYS(VOXDAG_IS_CLOSED, voxdag_changes(w, 0, 0, &is, &b)); SAYS(VOXDAG_IS_CLOSED, voxdag_surface(w, 0, &b, seen, 2, &needed));
     SAYS(VOXDAG_IS_CLOSED, voxdag_flood(w, 0, &b, &p, &n, out, 8, &needed));
     IS(seen[0].x == 7 && seen[1].sides == 7);
@@ -227,6 +232,40 @@ static int bytes(voxdag_world *w, uint32_t version)
     IS(out);
     SAYS(VOXDAG_OK, voxdag_journal(w, out, needed, &again)); IS(!memcmp(out, "voxdag journal 1\n", 17));
     free(out);
+    return 0;
+}
+
+/* The file of versions 0 and 2 of a world of side 8, where version 1 is forgotten, by its bytes; and what the world is. */
+static int versions(void)
+{
+    static const uint8_t file[] = {
+        'V', 'D', 'A', 'G', 1, 0, 0, 0, 8, 0, 0, 0, 2, 0, 0, 0, 1, 0, 0, 0, 1, 0, 0, 0, /* side 8, two versions, one leaf, one node */
+        3, 0, 0, 0, 0, 0, 0, 0, /* the leaf of the cells 0 and 1 of a row */
+        1, 0, 0, 0, 0, 0, 0, 0, 0, 0, 0, 0, 0, 0, 0, 0, 0, 0, 0, 0, 0, 0, 0, 0, 0, 0, 0, 0, 0, 0, 0, 0, /* it alone, in the first octant */
+        0, 0, 0, 0, 0, 0, 0, 0, 2, 0, 0, 0, 1, 0, 0, 0, /* version 0 has nothing, version 2 the node */
+    };
+    const voxdag_plan by = {8, 5, 3, 0};
+    voxdag_plan plan = {7, 7, 7, 7};
+    voxdag_world w = VOXDAG_CLOSED;
+    const voxdag_box one = {{0, 0, 0}, {1, 1, 1}}, two = {{0, 0, 0}, {2, 1, 1}};
+    uint8_t out[96];
+    size_t needed = 0, again = 0;
+    memset(out, 9, sizeof out);
+    SAYS(VOXDAG_OK, voxdag_open_as(&w, &by, NULL, 0)); SAYS(VOXDAG_OK, voxdag_about(&w, &plan));
+    IS(plan.side == 8 && plan.cap == 5 && plan.keep == 3 && plan.tints == 0);
+    SAYS(VOXDAG_OK, voxdag_fill(&w, &one)); SAYS(VOXDAG_OK, voxdag_fill(&w, &two)); SAYS(VOXDAG_OK, voxdag_forget(&w, 1));
+    SAYS(VOXDAG_TOO_SMALL, voxdag_dag(&w, NULL, 0, &needed)); IS(needed == sizeof file);
+    SAYS(VOXDAG_TOO_SMALL, voxdag_dag(&w, out, sizeof file - 1, &again)); IS(again == sizeof file && out[0] == 9);
+    SAYS(VOXDAG_OK, voxdag_dag(&w, out, sizeof out, &again)); IS(again == sizeof file && !memcmp(out, file, sizeof file));
+    for (size_t k = sizeof file; k < sizeof out; k++) IS(out[k] == 9);
+    /* The world goes on, with its roots in their places: the same file again, and an undo. */
+    SAYS(VOXDAG_OK, voxdag_dag(&w, out, sizeof out, &again)); IS(again == sizeof file && !memcmp(out, file, sizeof file));
+    SAYS(VOXDAG_FORGOTTEN, voxdag_undo(&w)); SAYS(VOXDAG_OK, voxdag_fill(&w, &good)); SAYS(VOXDAG_OK, voxdag_undo(&w));
+    bool is = false;
+    SAYS(VOXDAG_OK, voxdag_same(&w, 2, 4, &is)); IS(is);
+    SAYS(VOXDAG_OK, voxdag_close(&w));
+    SAYS(VOXDAG_OK, voxdag_open(&w, 4096)); SAYS(VOXDAG_OK, voxdag_about(&w, &plan)); IS(plan.side == 4096 && plan.cap == 128 && !plan.keep && !plan.tints);
+    SAYS(VOXDAG_OK, voxdag_close(&w));
     return 0;
 }
 
@@ -402,7 +441,7 @@ int main(void)
     uint32_t newest = 0;
     SAYS(VOXDAG_OK, voxdag_newest(&w, &newest)); SAYS(VOXDAG_OK, voxdag_count(&w, newest, &good, &n)); IS(newest > 0 && n > 0);
     SAYS(VOXDAG_OK, voxdag_close(&w));
-    if (journals() || tints() || keeping()) return 1;
+    if (versions() || journals() || tints() || keeping()) return 1;
     /* As many fills in buckets of the usual size. */
     SAYS(VOXDAG_OK, voxdag_open(&w, 64));
     for (uint32_t k = 0; k <= newest; k++) {

@@ -37,13 +37,13 @@ class Box(NamedTuple):
 
 
 class Plan(NamedTuple):
-    """How a world was opened."""
+    """How a world is open: its side, how many slots its buckets have, how many versions it keeps, 0 for all, and whether
+    its cells have tints."""
 
     side: int
     cap: int
     keep: int
     tints: bool
-    asked_only: bool
 
 
 class Scene(NamedTuple):
@@ -179,10 +179,10 @@ class World:
 
     @property
     def about(self) -> Plan:
-        """What the world is."""
-        plan, asked_only = CPlan(), c.c_bool()
-        self._call("about", c.byref(plan), c.byref(asked_only))
-        return Plan(plan.side, plan.cap, plan.keep, bool(plan.tints), asked_only.value)
+        """How the world is open."""
+        plan = CPlan()
+        self._call("about", c.byref(plan))
+        return Plan(plan.side, plan.cap, plan.keep, bool(plan.tints))
 
     # ---- changes: each answers the number of the version that it made
 

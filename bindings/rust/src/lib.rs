@@ -212,7 +212,7 @@ calls! { voxdag_open_scene(plan: *const Plan, file: *const u8, size: usize, plac
 #[cfg(voxdag = "open_dag")]
 calls! { voxdag_open_dag(file: *const u8, size: usize); }
 #[cfg(voxdag = "about")]
-calls! { voxdag_about(plan: *mut Plan, asked_only: *mut bool); }
+calls! { voxdag_about(plan: *mut Plan); }
 #[cfg(voxdag = "fill_tint")]
 calls! { voxdag_fill_tint(part: *const Boxed, tint: u32); }
 #[cfg(voxdag = "ball_tint")]
@@ -292,12 +292,12 @@ impl World {
         Ok(w)
     }
 
-    /// What the world is, and whether it is only asked.
+    /// How the world is open: its side, its cap as a number from 1 to 256, how many versions it keeps, and its tints.
     #[cfg(voxdag = "about")]
-    pub fn about(&mut self) -> Answer<(Plan, bool)> {
-        let (mut plan, mut asked_only) = (Plan::default(), false);
-        told(unsafe { voxdag_about(&mut self.0, &mut plan, &mut asked_only) })?;
-        Ok((plan, asked_only))
+    pub fn about(&mut self) -> Answer<Plan> {
+        let mut plan = Plan::default();
+        told(unsafe { voxdag_about(&mut self.0, &mut plan) })?;
+        Ok(plan)
     }
 
     // The number of the version that a change made.

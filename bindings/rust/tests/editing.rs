@@ -52,6 +52,24 @@ fn a_world_is_edited_asked_undone_saved_and_shared() -> Result<(), Refusal> {
     Ok(())
 }
 
+#[cfg(all(voxdag = "about", voxdag = "dag"))]
+#[test]
+fn a_world_tells_how_it_is_open_and_gives_its_file_of_versions() -> Result<(), Refusal> {
+    let mut world = World::open(8, 7, &[])?;
+    let plan = world.about()?;
+    assert_eq!((plan.side, plan.cap, plan.keep, plan.tints), (8, 7, 0, 0));
+    world.fill(boxed(place(0, 0, 0), place(8, 8, 8)))?;
+    // The example of docs/DAG_FILES.md: an empty version, and one with all cells.
+    let mut file = b"VDAG".to_vec();
+    let words = |numbers: &[u32]| numbers.iter().flat_map(|n| n.to_le_bytes()).collect::<Vec<u8>>();
+    file.extend(words(&[1, 8, 2, 1, 1]));
+    file.extend([0xff; 8]);
+    file.extend(words(&[1; 8]));
+    file.extend(words(&[0, 0, 1, 1]));
+    assert_eq!(world.dag()?, file);
+    Ok(())
+}
+
 #[cfg(all(voxdag = "changes", voxdag = "surface"))]
 #[test]
 fn what_changed_and_what_can_be_seen() -> Result<(), Refusal> {

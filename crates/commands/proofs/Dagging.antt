@@ -30,11 +30,11 @@ use Rattle.commands.specs.Outcomes.{Outcome}
 use Rattle.commands.specs.Putting.{StopsAmong}
 use Rattle.commands.specs.Refusals.{of_vox, of_journal}
 use Rattle.commands.specs.Judging.{AgreesWith, IsJudged}
+use Rattle.commands.specs.Judged.{models_once, models_not_lacking}
 use Rattle.commands.specs.Verdicts.{Verdict, Fine, HasJournalFault, JudgesModels}
 use Rattle.commands.specs.Unread.{no_journal}
 use Rattle.history_model.proofs.OnceLaws.{journals_once}
 use Rattle.commands.proofs.Accepting.{not_accepted}
-use Rattle.commands.proofs.Following.{models_once, models_not_lacking}
 use Rattle.commands.proofs.Putting.{broken_off}
 
 -- ---- refusals
@@ -194,6 +194,7 @@ dag_judged asked = record {
       (λ models a b of_a of_b. legal_once (journal_in texts) models a b of_a of_b)
       (file_in texts) v w of_v of_w;
   given = λ texts told outputs g. legal_fine (file_in texts) (journal_in texts) g.makes.legal;
+  begun = λ texts outputs b. legal_fine (file_in texts) (journal_in texts) b.makes.legal;
   refused = λ texts r says. dag_refused_by (file_in texts) (journal_in texts) r says;
   some = λ readings texts none.
       models_not_lacking (JudgesLegal (journal_in texts)) (file_in texts) readings

@@ -27,9 +27,9 @@ use Rattle.commands.specs.Putting.{StopsAmong}
 use Rattle.commands.specs.Refusals.{of_vox, of_flood}
 use Rattle.commands.specs.Inputs.{vox_input}
 use Rattle.commands.specs.Judging.{AgreesWith, FilesAreRead, IsJudged}
+use Rattle.commands.specs.Judged.{models_once, models_computed, computed_is_some}
 use Rattle.commands.specs.Verdicts.{Verdict, Fine, HasNoPlace, JudgesModels}
 use Rattle.commands.proofs.Accepting.{not_accepted}
-use Rattle.commands.proofs.Following.{models_once, models_computed, computed_is_some}
 use Rattle.commands.proofs.Putting.{broken_off}
 
 -- ---- places
@@ -184,6 +184,13 @@ flood_judged asked = record {
     says = g.floods.gives;
     judged = sym (flooded_fine asked g.floods.models number g.file g.floods.floods);
   };
+  begun = λ texts outputs b.
+      let f = b.flooded in
+      record {
+        reading = Ok f.floods.models;
+        says = f.floods.gives;
+        judged = sym (flooded_fine asked f.floods.models b.number f.file f.floods.floods);
+      };
   refused = λ texts r says. flood_refused_by asked (file_in texts) r says;
   some = λ readings texts none.
       computed_is_some (JudgesModels (judges_place asked) (file_in texts))

@@ -14,6 +14,7 @@ use Rattle.commands.specs.declared.refusals.TextRefused.{TextRefused}
 use Rattle.commands.specs.declared.refusals.TextRefused.TheVariants.{NoPlace, NoDag, Memory}
 use Rattle.requests.specs.Orders.{LookAsked}
 use Rattle.commands.specs.Judging.{AgreesWith, IsJudged}
+use Rattle.commands.specs.Judged.{computed_is_some}
 use Rattle.commands.specs.Looks.{RefusesLooking, JudgesAnswer, verdict_of_look, look_means}
 use Rattle.commands.specs.Meanings.{file_in}
 use Rattle.commands.specs.Outcomes.{Outcome}
@@ -21,7 +22,6 @@ use Rattle.commands.specs.Refusals.{of_look}
 use Rattle.commands.specs.Inputs.{vox_input}
 use Rattle.commands.specs.Verdicts.{Verdict}
 use Rattle.commands.proofs.Accepting.{not_accepted, unwritten}
-use Rattle.commands.proofs.Following.{computed_is_some}
 
 pub looked : (asked : LookAsked) (texts : List (List ℕ)) (answer : Answer) (old new : ShelfState)
     → AreTaken old.files (vox_input asked.dag ∷ []) texts
@@ -79,6 +79,7 @@ look_judged asked = record {
   one = λ texts v w of_v of_w. answers_once asked (file_in texts) v w of_v of_w;
   given = λ texts answer outputs g.
       (None, answer_has_place (file_in texts) asked.version asked.question answer g.answers, refl);
+  begun = λ texts outputs b. absurd b;
   refused = λ texts r says. look_refused_by asked (file_in texts) r says;
   some = λ readings texts none.
       computed_is_some (JudgesAnswer asked (file_in texts)) (look_computed asked (file_in texts))

@@ -28,9 +28,9 @@ use Rattle.commands.specs.Putting.{StopsAmong}
 use Rattle.commands.specs.Refusals.{of_vox, of_scene}
 use Rattle.commands.specs.Inputs.{vox_input}
 use Rattle.commands.specs.Judging.{AgreesWith, FilesAreRead, IsJudged}
+use Rattle.commands.specs.Judged.{models_once, models_computed, computed_is_some}
 use Rattle.commands.specs.Verdicts.{Verdict, JudgesModels}
 use Rattle.commands.proofs.Accepting.{not_accepted}
-use Rattle.commands.proofs.Following.{models_once, models_computed, computed_is_some}
 use Rattle.commands.proofs.Putting.{broken_off}
 
 -- ---- refusals
@@ -176,6 +176,13 @@ scene_judged asked = record {
     says = g.places.has.has.has;
     judged = (None, placeable (file_in texts) g.places.scene g.places.has, refl);
   };
+  begun = λ texts outputs b.
+      let p = b.placed.places in
+      record {
+        reading = Ok p.has.has.models;
+        says = p.has.has.has;
+        judged = (None, placeable (file_in texts) p.scene p.has, refl);
+      };
   refused = λ texts r says. scene_refused_by (file_in texts) r says;
   some = λ readings texts none.
       computed_is_some (JudgesModels (judges_scene (file_in texts)) (file_in texts))

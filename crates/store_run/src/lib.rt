@@ -7,9 +7,11 @@
 #![tactic(auto)]
 
 mod compared;
+mod facts;
 mod floods;
 mod held_roots;
 mod histories;
+mod lent_roots;
 mod lines;
 mod marked;
 mod open_worlds;

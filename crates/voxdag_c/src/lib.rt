@@ -19,9 +19,10 @@ ghost use Rattle.voxdag_c.specs.held.Places.{cell_of_c_place, box_of, ball_of, e
 ghost use Rattle.voxdag_c.specs.held.Calls.{ByHandle, WorldChanges, WorldForgets, WorldAsks, WorldCompares, WorldSaves, WorldJournals, OpensHandle};
 ghost use Rattle.voxdag_c.specs.held.Calls.{ByKind, WorldDiffers, WorldShows, WorldFloods, WorldTints, act_here};
 ghost use Rattle.voxdag_c.specs.held.Calls.{PutsNewest, PutsSize, WritesNothing, ClosesHandle};
+ghost use Rattle.voxdag_c.specs.held.Facts.{WorldFiles, PutsPlan};
 ghost use Rattle.voxdag_c.specs.held.GoingOn.{GoesOnInHandle};
 
-use crate::held::{CBox, CPlace, CShown, CWorld, Handle, statuses as status};
+use crate::held::{CBox, CPlace, CPlan, CShown, CWorld, Handle, statuses as status};
 use std::alloc::Global;
 
 /// Sets the cells of a box.
@@ -216,6 +217,24 @@ pub extern "C" fn voxdag_c_newest(alloc: Global, handle: &mut Handle, version: &
         None => status::CLOSED,
         Some(mut world) => {
             let status = world.put_newest(version);
+            handle.put(world);
+            status
+        }
+    }
+}
+
+/// What the world is.
+#[tactic(auto, using(crate::proofs::Through::through_closed, crate::proofs::Through::through_open))]
+#[unsafe(no_mangle)]
+pub extern "C" fn voxdag_c_about(alloc: Global, handle: &mut Handle, plan: &mut CPlan) -> u32
+    ensures { ByHandle (plan.new ≡ plan.old)
+        (λ w status v. (v ≡ w) × PutsPlan w status plan.new)
+        handle.old.kept.value result handle.new.kept.value }
+{
+    match handle.take(alloc) {
+        None => status::CLOSED,
+        Some(mut world) => {
+            let status = world.put_plan(plan);
             handle.put(world);
             status
         }
@@ -446,6 +465,29 @@ pub extern "C" fn voxdag_c_journal(
         None => status::CLOSED,
         Some(mut world) => {
             let status = world.journal(alloc, out, needed);
+            handle.put(world);
+            status
+        }
+    }
+}
+
+/// The file of the versions that aren't forgotten, and how many bytes it has.
+#[tactic(auto, using(crate::proofs::Through::through_closed, crate::proofs::Through::through_open))]
+#[unsafe(no_mangle)]
+pub extern "C" fn voxdag_c_dag(
+    alloc: Global,
+    handle: &mut Handle,
+    out: &mut [u8],
+    needed: &mut usize,
+) -> u32
+    ensures { ByHandle (WritesNothing out.old out.new needed.old needed.new)
+        (λ w status v. (v ≡ w) × WorldFiles w out.old out.new needed.old needed.new status)
+        handle.old.kept.value result handle.new.kept.value }
+{
+    match handle.take(alloc) {
+        None => status::CLOSED,
+        Some(mut world) => {
+            let status = world.dag(alloc, out, needed);
             handle.put(world);
             status
         }
