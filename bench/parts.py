@@ -279,8 +279,29 @@ class Library:
                 f"a get by C {said['get']} ns, by the crate {found['crate'].printed.split()[1]} ns{differs}"]
 
 
+@dataclass(frozen=True)
+class Journal:
+    """A journal of 65,535 small fills that a world is opened from: time and memory, beside making the changes."""
+
+    def run(self, name: str, rounds: int, is_counted: bool) -> list[str]:
+        folder = room("library")
+        made = folder / "made"
+        if not (made / "libvoxdag.a").is_file():
+            command([ROOT / "tools/build-library", made])
+        program = folder / "journal"
+        flags = ["-O2", "-std=c11", "-Wall", "-I", ROOT / "include"]
+        command(["cc", *flags, "-o", program, HERE / "library/journal.c", made / "libvoxdag.a"])
+        found = timed.in_turn(rounds, {
+            "made": lambda: timed.timed([program, "journal.txt", "65535"], folder), "opened": lambda: timed.timed([program, "journal.txt"], folder)})
+        words = found["opened"].printed.split()
+        said = dict(zip(words[::2], words[1::2]))
+        differs = "" if said["newest"] == "65535" and said["same"] == "1" else "; THE WORLD IS ANOTHER"
+        return [f"{name}, of {rounds}: making 65,535 changes {found['made'].least:.3f} s, opening their journal {found['opened'].least:.3f} s "
+                f"({said['open']} ms of the processor in the call, the last), peak {found['opened'].peak / 1e6:.0f} MB{differs}"]
+
+
 STORES = " ".join(reversed(below("edit_ops edit_copy edit_stamp measure ray_walk extract script one_store".split())))
-ROWS: dict[str, Part | Library] = {
+ROWS: dict[str, Part | Library | Journal] = {
     "kernels": Part("node_words vw_cell", "", peer=None),
     "one_store": Part("one_store core_laws node_words vw_cell", "kind time sum", scale=0.1, aim=1.3, more=begun, peaks={
         "a store of side 4,096 by the usual plan": ["usual"],
@@ -300,4 +321,5 @@ ROWS: dict[str, Part | Library] = {
     "questions": Part(STORES, "kind . time sum", "ms", 1e-6, is_proved=False, aim=1.5, cases=worlds_of("questions"), rustc=octree,
                       source="worlds", shows=lambda kind: kind == "edit"),
     "library": Library(),
+    "journal": Journal(),
 }
