@@ -36,6 +36,7 @@ from logs import About, FileLog, NotMine, SharedLog
 from messages import EDITS, Refusal, edit_of, identity, name_of, of_library, pointed_of, question_of, read, shown_of, text_of
 from room import Room
 
+OF_TINTS = ("open_as", "fill_tint", "ball_tint", "colour")
 MOST_FRAME = 1 << 20
 MOST_FILE = 1 << 20
 MOST_UNREAD = 1000
@@ -174,7 +175,7 @@ class Server:
     async def _dag(self, request: web.Request) -> web.Response:
         try:
             data = self.room.world.dag()
-        except voxdag.NotExported:
+        except (voxdag.NotExported, voxdag.OtherKind):
             data = await self._dag_by_program()
         except voxdag.Refused as refused:
             raise of_library(refused) from None
@@ -348,11 +349,16 @@ def command(arguments: Optional[list[str]] = None) -> argparse.Namespace:
     return words
 
 
+def lacks_of_tints() -> list[str]:
+    """The calls of worlds with tints that the library lacks."""
+    return [name for name in OF_TINTS if not voxdag.load().exports(name)]
+
+
 async def serve(words: argparse.Namespace) -> None:
     log = FileLog(words.world) if words.world else SharedLog(words.etcd, words.name)
     room = Room(log, voxdag.slow.World if words.slow else voxdag.World)
     models = words.models.read_bytes() if words.models else b""
-    has_tints = words.slow or voxdag.load().exports("fill_tint")
+    has_tints = words.slow or not lacks_of_tints()
     if not (has_tints or words.plain):
         print("this library has no tints: cells of a new world are set or clear", flush=True)
     await room.open(About(words.side, has_tints and not words.plain, words.cap), models)

@@ -390,6 +390,9 @@ window.editor = {
     isDrawn: !state.isStale && cells?.changed.size === 0,
     asks: link?.asks,
     angle: camera?.angle,
+    tints: state.tints,
+    tint: brush?.tint,
+    cursor: state.cursor,
   }),
   at: (x, y, z) => cells.at(x, y, z) & 255,
   look: (angle, tilt, far, place) => {
