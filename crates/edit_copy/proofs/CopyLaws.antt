@@ -2,7 +2,7 @@
 use Rattle.std.proofs.Common.{true, ◌⊎◌, ◌≡◌, ℕ, suc, ◌+◌, ◌-◌, ◌*◌, ◌%◌, ◌<◌, ◌≤◌, Bool, false, Some, None, Option, List, refl, sym, ◌∙◌, ap, subst, arith}
 use Rattle.std.specs.Prelude.{if◌then◌else◌}
 use Rattle.std.proofs.Common.{inl, inr}
-use Rattle.std.proofs.lemmas.Bool.{cases_lt}
+use Rattle.std.proofs.lemmas.Bool.{cases_lt, false≢true}
 use Rattle.vw_cell.specs.declared.cells.Cell.{Cell}
 use Rattle.vw_cell.specs.declared.boxes.Boxed.{Boxed}
 use Rattle.vw_cell.specs.Counts.{cell_at}
@@ -25,7 +25,7 @@ use Rattle.edit_walk.proofs.OfCells.PaintLaws.{old_child, old_gone, old_same}
 use Rattle.edit_walk.proofs.OfCells.PartLaws.{part_cells, box_missed, box_held}
 use Rattle.node_words.specs.descent.Roots.{IsBlockOf}
 use Rattle.edit_copy.specs.declared.copies.CopyTask.{CopyTask}
-use Rattle.edit_copy.specs.Copies.{IsKeptOld, cube_of, moved, IsOffset, IsBegin, MakesCopy, begin_of, rest_of, source_from, source_octant, source_of, is_unread}
+use Rattle.edit_copy.specs.Copies.{IsKeptOld, cube_of, moved, IsOffset, IsBegin, AreTaken, MakesCopy, begin_of, rest_of, source_from, source_octant, source_of, is_unread}
 use Rattle.edit_copy.proofs.WindowLaws.{same_has, branch_same, part_of, window_step, step_rests, step_begins, source_in_cube}
 
 picked : (a a' v v' w w' : Bool) → a ≡ a' → v ≡ v' → w ≡ w'
@@ -187,6 +187,95 @@ makes_octant base level task cells k old sources one lt m kept there none =
           (moved_octant (level - 1) task.part task.offset m.row (shape_of m.tree)
           (shape_of u.tree) k lt o u.same);
     }
+
+picked_else : (a a' v v' w w' : Bool) → a ≡ false → a' ≡ false → w ≡ w'
+    → (if a then v else w) ≡ (if a' then v' else w')
+picked_else a a' v v' w w' p q r = rw (p, q, r) refl
+
+-- where no cell is taken, the sources don't matter
+moved_missed : (level : ℕ) (part : Boxed) (offset rest : Cell) (cube other old new : Shape) (k : ℕ)
+    → k < 8 → (Meets (part_in (block_side level) part k) (block_at_origin level) → ⊥)
+    → HoldsBlock (part_in (block_side level) part k) (block_at_origin level)
+    ⊎ (new ≡ octant_shape old k)
+    → SameIn level (octant_cells level (moved (suc level) part offset cube (has (suc level) old)) k)
+    (moved level (part_in (block_side level) part k) rest other (has level new))
+moved_missed level part offset rest cube other old new k lt missed kept =
+    let here = box_missed (part_in (block_side level) part k) level missed in
+    record {
+      each = λ x y z p q r. picked_else _ _ _ _ _ _
+          ((part_cells level part k).each x y z p q r ∙ here.each x y z p q r)
+          (here.each x y z p q r)
+          (elim kept [
+            | inl h ↦ absurd (false≢true (sym (here.each x y z p q r)
+                ∙ (box_held (part_in (block_side level) part k) level h).each x y z p q r))
+            | inr e ↦ has-in_octant level old k x y z lt p q r
+                ∙ ap (λ (s : Shape). has level s x y z) (sym e)
+          ]);
+    }
+
+-- the task of an octant in which no cell is taken
+pub makes_missed : (base : List Tree) (level : ℕ) (task : CopyTask) (cells : Cells) (k : ℕ)
+    (old : Option Name) (sources : List (Option Name)) → 1 ≤ level → k < 8
+    → (m : MakesCopy task base level cells)
+    → (HoldsBlock (part_in (block_side (level - 1)) task.part k) (block_at_origin (level - 1))
+    × (old ≡ None)) ⊎ (old ≡ root_of (child_of m.tree k))
+    → (Meets (part_in (block_side (level - 1)) task.part k) (block_at_origin (level - 1)) → ⊥)
+    → ((j : ℕ) → j < 8 → name_in sources j ≡ None)
+    → MakesCopy
+    (record {
+      old = old;
+      sources = sources;
+      offset = rest_of
+          (level - 1) k task.offset;
+      part = part_in (block_side (level - 1)) task.part k;
+    }) base
+    (level - 1) (octant_cells (level - 1) cells k)
+makes_missed base level task cells k old sources one lt m kept missed none =
+    let up : level ≡ suc (level - 1) = omega arith in
+    let part = part_in (block_side (level - 1)) task.part k in
+    let shows =
+    subst (λ (l : ℕ). SameIn l cells
+    (moved l task.part task.offset (cube_of m.row) (has l (shape_of m.tree)))) up m.shows in
+    let u = kept_tree base level part m.tree task.old old k one m.is_old kept in
+    record {
+      small = omega (arith, m.small);
+      offset = step_rests (level - 1) k task.offset;
+      tree = u.tree;
+      is_old = u.is_old;
+      row = λ j. Gone;
+      sources = record {
+        each = λ j l. gone_old base (level - 1) _ _ (name_in sources j)
+            (old_child base level m.tree task.old _ k one m.is_old refl) (none j l);
+      };
+      shows = same_on (level - 1) _ _ _ (octant_same (level - 1) _ _ k lt shows)
+          (moved_missed (level - 1) task.part task.offset (rest_of (level - 1) k task.offset)
+          (cube_of m.row) (cube_of (λ j. Gone)) (shape_of m.tree) (shape_of u.tree) k lt missed
+          u.same);
+    }
+
+-- the same by what an octant's sources are
+pub makes_taken : (base held : List Tree) (level : ℕ) (task : CopyTask) (cells : Cells) (k : ℕ)
+    (old : Option Name) (sources : List (Option Name)) → 1 ≤ level → k < 8
+    → (m : MakesCopy task base level cells)
+    → (HoldsBlock (part_in (block_side (level - 1)) task.part k) (block_at_origin (level - 1))
+    × (old ≡ None)) ⊎ (old ≡ root_of (child_of m.tree k))
+    → AreTaken held (level - 1) m.row (begin_of (level - 1) k task.offset)
+    (rest_of (level - 1) k task.offset) (part_in (block_side (level - 1)) task.part k) sources
+    → MakesCopy
+    (record {
+      old = old;
+      sources = sources;
+      offset = rest_of
+          (level - 1) k task.offset;
+      part = part_in (block_side (level - 1)) task.part k;
+    }) base
+    (level - 1) (octant_cells (level - 1) cells k)
+makes_taken base held level task cells k old sources one lt m kept (inl none) =
+    makes_missed base level task cells k old sources one lt m kept
+    (none.0 (block_at_origin (level - 1))) none.1
+makes_taken base held level task cells k old sources one lt m kept (inr are) =
+    makes_octant base level task cells k old sources one lt m kept
+    (λ j l e. sym ((are j l).read e).root) (λ j l e. (are j l).unread e)
 
 -- blocks that are known as a whole
 

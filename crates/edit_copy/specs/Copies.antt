@@ -4,7 +4,8 @@ use Rattle.std.proofs.Common.{suc}
 use Rattle.vw_cell.specs.declared.cells.Cell.{Cell}
 use Rattle.vw_cell.specs.declared.boxes.Boxed.{Boxed}
 use Rattle.vw_cell.specs.Counts.{cell_at}
-use Rattle.vw_cell.specs.Places.{block_side, is_in_box, half_x, half_y, half_z, HoldsBlock}
+use Rattle.vw_cell.specs.declared.blocks.Block.{Block}
+use Rattle.vw_cell.specs.Places.{block_side, is_in_box, half_x, half_y, half_z, HoldsBlock, Meets}
 use Rattle.node_words.specs.declared.shapes.names.Name.{Name}
 use Rattle.node_words.specs.shapes.Shape.{Shape, branch_of, has}
 use Rattle.node_words.specs.shapes.Tree.{Tree, child_of, shape_of}
@@ -118,6 +119,17 @@ pub record IsSource (held : List Tree) (level : ℕ) (row : ℕ → Tree) (at of
     (name : Option Name) : Type 0 where
   pub read : is_unread offset j ≡ false → IsBlockOf held level name (source_of row at j)
   pub unread : is_unread offset j ≡ true → name ≡ None
+
+-- no cell is in the box
+abbrev pub IsEmpty : Boxed → Type 0
+IsEmpty part = (b : Block) → Meets part b → ⊥
+
+-- the names are those of an octant's sources, or none where no cell is taken from them
+abbrev pub AreTaken : List Tree → ℕ → (ℕ → Tree) → Cell → Cell → Boxed → List (Option Name)
+    → Type 0
+AreTaken held level row at offset part names =
+    (IsEmpty part × ((j : ℕ) → j < 8 → name_in names j ≡ None))
+    ⊎ ((j : ℕ) → j < 8 → IsSource held level row at offset j (name_in names j))
 
 -- the name is that of the octant, or none where the box holds the whole octant
 abbrev pub IsKeptOld : List Tree → ℕ → Option Name → ℕ → Boxed → Option Name → Type 0

@@ -1,7 +1,7 @@
 ghost use Rattle.std.specs.Prelude.{◌≡◌, ◌+◌, ◌-◌, ◌*◌, ◌^◌, ◌<◌, ◌≤◌, ℕ, IsTrue, bit_and, bit_or};
 ghost use Rattle.std.specs.Int.{bit_not, w64};
 
-use crate::sources::{are_none, leaves_in, same_sources, sources_in, step_to};
+use crate::sources::{Step, are_none, leaves_in, same_sources, sources_in, step_to};
 use edit_walk::{Repeats, Task, Whole, old_whole};
 use node_words::{
     Blocks, Name, box_bits, half_side, leaf_bits, octant_name, part_of, same_boxes, same_cells,
@@ -44,7 +44,7 @@ impl Task for CopyTask {
         let part = part_of(half, self.part, octant);
         let old = kept_old(store, level, self.old, octant, part);
         let step = step_to(self.offset, level - 1, octant);
-        let sources = sources_in(store, level, &self.sources, step.at, step.rest);
+        let sources = taken_in(store, level, &self.sources, step, part);
         CopyTask {
             old,
             sources,
@@ -55,7 +55,7 @@ impl Task for CopyTask {
 
     fn whole(&self, level: u8) -> Whole {
         let block = Block { level, at: ORIGIN };
-        if !self.part.meets(block) {
+        if is_empty(self.part) {
             return old_whole(self.old);
         }
         if self.part.holds_block(block) {
@@ -137,6 +137,40 @@ fn kept_old<B: Blocks>(
 
 ghost use Rattle.node_words.specs.descent.Roots.{HasBlock};
 ghost use Rattle.edit_copy.specs.Copies.{IsKeptOld};
+
+// Whether no cell is in the box.
+#[inline(always)]
+fn is_empty(part: Boxed) -> bool
+    ensures { IsTrue result → IsEmpty part }
+{
+    part.size.x == 0 || part.size.y == 0 || part.size.z == 0
+}
+
+// The sources of an octant, of which this part is taken: none are read where it has no cell, which
+// is so in most octants of a small box.
+#[inline(always)]
+fn taken_in<B: Blocks>(
+    store: &mut B,
+    level: u8,
+    sources: &[Option<Name>; 8],
+    step: Step,
+    part: Boxed,
+) -> [Option<Name>; 8]
+    requires level { 1 ≤ level }
+    requires at { IsBegin step.at }
+    requires sources { HoldsBlocks (B.seen store.old).held level sources.now }
+    ensures sources { ForBlocks (B.seen store.old).held level sources.now
+        (λ row. AreTaken (B.seen store.old).held (level - 1) row step.at step.rest part result) }
+    ensures seen { B.seen store.new ≡ B.seen store.old }
+    ensures rests { B.rests store.old store.new }
+{
+    if is_empty(part) {
+        return [None; 8];
+    }
+    sources_in(store, level, sources, step.at, step.rest)
+}
+
+ghost use Rattle.edit_copy.specs.Copies.{AreTaken, ForBlocks, HoldsBlocks, IsBegin, IsEmpty};
 
 // The bits that moved where those inside are set, and the old ones elsewhere.
 fn mix(old: u64, moved: u64, inside: u64) -> u64

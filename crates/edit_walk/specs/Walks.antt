@@ -97,7 +97,7 @@ WalksBlock makes level task old result new =
     ForBuilding makes level task old
     (λ base rest cells. WalkCame makes base rest level (shape_with level cells) result old new)
 
--- the same of a block of which a share is taken only where none like it stands
+-- a block was found: one that stands, of which no share is taken yet, or one that was made
 pub record FoundTo {T : Type 0} (makes : T → Making) (base rest : List Tree) (level : ℕ)
     (target : Shape) (block : WalkedBlock) (old new : Walk T) : Type 0 where
   pub found : Found makes base rest level target block new
@@ -150,8 +150,8 @@ WalksOctants makes level task old children standing result new =
     (λ base rest cells. GatherCame makes base rest level task cells children standing result old
     new)
 
--- at most so many turns beside 16 for each level by which the full block aside grew, and 25 for each
--- mixed block; and how high it is at most now
+-- at most so many turns beside 16 for each level by which the full block aside grew, and 25 for
+-- each mixed block; and how high it is at most now
 pub record TookTurns (own top mixed : ℕ) (before after : Option Name) (old new : ℕ) : Type 0 where
   pub turns : new + 16 * height before ≤ old + 16 * height after + own + 25 * mixed
   pub height_is : height after ≤ max (height before) top

@@ -4,8 +4,8 @@
 //! The walk goes down where a block is mixed. Of what stands it takes no share until a block above
 //! it is known to change, and where nothing changes the old block is the answer. It remembers
 //! blocks that it made, in the memo that it is given, so a block like one of them costs one share
-//! more. A walk is told in `specs/Walks.antt`, what it finds of a block in `specs/Outcomes.antt` and
-//! a memo in `specs/Memos.antt`; what a task makes of a block is said by cells, in
+//! more. A walk is told in `specs/Walks.antt`, what it finds of a block in `specs/Outcomes.antt`
+//! and a memo in `specs/Memos.antt`; what a task makes of a block is said by cells, in
 //! `specs/cells/Tasks.antt`.
 #![tactic(auto)]
 

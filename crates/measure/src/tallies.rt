@@ -51,7 +51,8 @@ pub trait Subject: Copy {
     fn mark(&self) -> usize
         ensures { result < 2 ^ 32 };
 
-    /// Whether it is worth to ask first if no cell of the whole block counts. No tally depends on it;
+    /// Whether it is worth to ask first if no cell of the whole block counts. No tally depends on
+    /// it;
     /// `passes_none` misses less where it is true.
     fn is_even(&self) -> bool;
 

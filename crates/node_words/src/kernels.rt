@@ -8,6 +8,7 @@
 mod balls;
 mod boxes;
 mod laws;
+mod near_balls;
 mod windows;
 
 pub use balls::ball_bits;

@@ -12,10 +12,11 @@ use vox_read::Models;
 use vw_cell::Memory;
 
 impl World {
-    /// An empty world, whose cells have tints or have none, and its sessions, numbered from 0 up. It
-    /// owns the models from then on. Where cells have tints the world has a quarter of the plan's
-    /// side, which is 16 at least. It holds the last `keep` versions alone, or with 0 all: as record
-    /// n is appended, version n - keep is forgotten, unless it has a mark.
+    /// An empty world, whose cells have tints or have none, and its sessions, numbered from 0 up.
+    /// The models are given up: to the world, or where it is refused. Where cells have tints the
+    /// world has a quarter of the plan's side, which is 16 at least. It holds the last `keep`
+    /// versions alone, or with 0 all: as record n is appended, version n - keep is forgotten,
+    /// unless it has a mark.
     pub fn begin(
         alloc: Global,
         plan: &Plan,

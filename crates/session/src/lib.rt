@@ -1,10 +1,10 @@
 //! A world that many sessions edit and read at the same time, with one history of all of them.
 //!
-//! A [`Hand`] lends a session as a store of nodes. Edits run over hands, records stand in the log of
-//! the table, and an old version is read with no turn. No file and no text occurs here. What each
-//! call tells is said in the terms of `conformance` (`specs/sessions/CallSpecs.antt` there); what a
-//! world and a session are seen as, and what a closed world left, in `specs/SessionWorlds.antt` and
-//! `specs/Closes.antt`.
+//! A [`Hand`] lends a session as a store of nodes. Edits run over hands, records stand in the log
+//! of the table, and an old version is read with no turn. No file and no text occurs here. What
+//! each call tells is said in the terms of `conformance` (`specs/sessions/CallSpecs.antt` there);
+//! what a world and a session are seen as, and what a closed world left, in
+//! `specs/SessionWorlds.antt` and `specs/Closes.antt`.
 #![tactic(auto)]
 
 mod acts;

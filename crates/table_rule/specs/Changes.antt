@@ -46,7 +46,8 @@ pub record IsUsed (words : List (WordId × ℕ)) (n : Name) : Type 0 where
   pub known : known_at (used_of (bucket_of n)) words ≡ Some number
   pub inside : n.slot < number
 
--- a book's load shows how many shares there are, and the words of the key whose tag it has
+-- a book's load shows how many shares there are, and, where it isn't free, the words of the key
+-- whose tag it has
 pub record BookFound (v : SeatView) (n : Name) (book : ℕ) (w : SeatView) : Type 0 where
   pub words : List (WordId × ℕ)
   pub is : w ≡ record v { words = words }

@@ -43,7 +43,8 @@ WordsAreLoaded = (p : Layout) (seat : ℕ) (v : SeatView) (b : BucketAt) (x : Wo
     → MayWrite p seat v x (λ n. n) (Rests p)
     (λ k w. (w ≡ knowing v x k) × ((n : ℕ) → known_at x v.words ≡ Some n → k ≡ n))
 
--- a book is loaded: how many shares there are is known, and the entry's key, whose tag was found
+-- a book is loaded: how many shares there are is known, and, where it isn't free, the entry's key
+-- has the tag that was found
 abbrev pub BooksAreLoaded : Type 0
 BooksAreLoaded = (p : Layout) (seat : ℕ) (v : SeatView) (n : Name) → v.turn ≡ Some (bucket_of n)
     → IsName p n

@@ -54,8 +54,8 @@ RefusesInput TooLong files input faults risen =
 RefusesInput Failed files input faults risen = Rose faults risen
 RefusesInput Memory files input faults risen = ⊤
 
--- the first input that was not taken has this name, and the count of faults was `at_read` as its
--- read began: what it was at first, where no input was read before
+-- the first input that was not taken has this name. The count of faults was `at_read` as its read
+-- began, which is known exactly where no input was read before: then it is what it was at first
 pub record StopsAt (why : ReadRefused) (name : List ℕ) (inputs : List WantedInput)
     (files : Option Files) (faults risen : ℕ) : Type 0 where
   pub input : WantedInput

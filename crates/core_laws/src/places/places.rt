@@ -128,8 +128,8 @@ impl Places {
 
     /// The place of a bucket's first word. A line of memory begins there where the table's block of
     /// memory begins two words behind a line, as a large one of the C library does. A bucket's head
-    /// is its turn, how many of its slots were ever used, and the books of all slots; the keys stand
-    /// behind the head, the words of each side by side.
+    /// is its turn, how many of its slots were ever used, and the books of all slots; the keys
+    /// stand behind the head, the words of each side by side.
     #[inline(always)]
     pub fn bucket(&self, level: u8, bucket: u16) -> usize
         requires { IsWordId self.now (Turn level bucket) }

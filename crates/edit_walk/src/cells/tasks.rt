@@ -47,8 +47,8 @@ pub trait Task: Copy {
 
     ghost mixed_in: { ℕ → Self → ℕ → ℕ };
 
-    /// The block as it was, or none where no block is told: so are those whose old cells don't
-    /// matter.
+    /// A held block of this level, or none. Where it is the block as it was, an edit that changes
+    /// nothing answers it; another one costs shares, and no cell hangs on it.
     fn old(&self) -> Option<Name>
         ensures { (base : List Tree) (level : ℕ) (cells : Cells) → makes self.now base level cells
             → (t : Tree) × IsOld base level t result };

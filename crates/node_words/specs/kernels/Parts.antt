@@ -3,6 +3,8 @@
 use Rattle.std.specs.Prelude.{◌≡◌, ℕ, ◌+◌, ◌-◌, ◌*◌, ◌/◌, ◌%◌, ◌<◌, ◌≤◌, Bool, true, false, List, ◌==◌, ◌&&◌, nat_le, nat_lt, slice_index, length}
 use Rattle.std.proofs.Common.{zero, suc}
 use Rattle.std.specs.Int.{bit_at, abs_diff}
+use Rattle.node_words.specs.Ball.{Ball}
+use Rattle.node_words.specs.Block.{Block}
 use Rattle.node_words.specs.Places.{square}
 use Rattle.node_words.specs.shapes.Shape.{bit_number}
 
@@ -29,6 +31,16 @@ pub record AxisShows (bits : ℕ) (axis : ℕ → ℕ → ℕ → ℕ) (from to 
 pub record AreSmall (squares : List ℕ) : Type 0 where
   pub four : length squares ≡ 4
   pub each : (i : ℕ) → i < 4 → slice_index squares i ≤ 65538 * 65538
+
+-- no more than the greatest square of a distance of places below 2^15
+pub record AreNear (squares : List ℕ) : Type 0 where
+  pub four : length squares ≡ 4
+  pub each : (i : ℕ) → i < 4 → slice_index squares i ≤ 32770 * 32770
+
+-- the centre and the block are at places below 2^15
+pub record IsNearBall (ball : Ball) (block : Block) : Type 0 where
+  pub centre : (ball.centre.x < 32768) × (ball.centre.y < 32768) × (ball.centre.z < 32768)
+  pub at : (block.at.x < 32768) × (block.at.y < 32768) × (block.at.z < 32768)
 
 -- the squares of the distances of the centre from the four places from `at` on
 pub record SquaresFrom (squares : List ℕ) (centre at : ℕ) : Type 0 where

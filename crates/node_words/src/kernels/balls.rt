@@ -4,6 +4,7 @@ ghost use Rattle.node_words.specs.Places.{is_in_ball, square};
 ghost use Rattle.node_words.specs.kernels.Leaves.{LeafShows};
 ghost use Rattle.node_words.specs.kernels.Parts.{AreSmall, SquaresFrom, SumsShow, LayerShows, RowShows, FourBeside, Beside};
 
+use crate::kernels::near_balls::{is_near, near_bits};
 use crate::shapes::{Ball, Block};
 use std::simd::prelude::*;
 
@@ -14,6 +15,9 @@ pub fn ball_bits(ball: Ball, block: Block) -> u64
     ensures bits { LeafShows result block (is_in_ball ball) }
     ensures bound { result < 2 ^ 64 }
 {
+    if is_near(ball, block) {
+        return near_bits(ball, block);
+    }
     let reach = squared(u32::from(ball.radius));
     let x = nearest(ball.centre.x, block.at.x);
     let y = nearest(ball.centre.y, block.at.y);
@@ -139,7 +143,7 @@ fn row(x: [u64; 4], rest: u64, reach: u64) -> u64
 // Four numbers of so many bits, side by side.
 #[inline]
 #[tactic(auto, using(crate::proofs::OfKernels::BallBits::four_beside, crate::proofs::OfKernels::BallBits::four_fit))]
-fn four(a: u64, b: u64, c: u64, d: u64, width: u32) -> u64
+pub(crate) fn four(a: u64, b: u64, c: u64, d: u64, width: u32) -> u64
     requires width { (1 ≤ width) × (width ≤ 16) }
     requires a { a < 2 ^ width }
     requires b { b < 2 ^ width }

@@ -15,7 +15,7 @@ load_as-requires-clause-may c =
     let p = c.args.table.now.plan in let r = c.requires in let v = c.args.seat.now.view in
     record {
       word_id = Version c.args.version 7;
-      is_word_id = (r.there.1, omega arith);
+      outside = (r.there.1, omega arith);
       there =
           c.version-place.ensures
           ∙ ap (λ (q : Layout). place q (Version c.args.version 7))

@@ -15,7 +15,7 @@ load_as-requires-clause-may c =
     let b = bucket_named c.args.level c.args.bucket in
     record {
       word_id = Used c.args.level c.args.bucket;
-      is_word_id = r.turn.there;
+      outside = r.turn.there;
       there =
           c.used-at.ensures
           ∙ ap (λ (q : Layout). place q (Used c.args.level c.args.bucket))

@@ -13,7 +13,7 @@ store_as-requires-clause-may c =
     let p = c.args.table.now.plan in let r = c.requires in let v = c.args.seat.now.view in
     record {
       word_id = Used c.args.level c.args.bucket;
-      is_word_id = r.turn.there;
+      outside = r.turn.there;
       there =
           c.used-place.ensures
           ∙ ap (λ (q : Layout). place q (Used c.args.level c.args.bucket))

@@ -2,12 +2,12 @@ use Rattle.std.proofs.Common.{arith, suc, ◌-◌, ◌≡◌, ◌<◌, subst, sy
 use Rattle.vw_cell.specs.declared.cells.Cell.{Cell}
 use Rattle.vw_cell.specs.declared.boxes.Boxed.{Boxed}
 use Rattle.vw_cell.specs.Places.{block_side}
-use Rattle.node_words.specs.Held.{StoreState, name_in}
+use Rattle.node_words.specs.Held.{StoreState}
 use Rattle.node_words.specs.descent.Parts.{part_in}
 use Rattle.node_words.specs.contents.CellShapes.{octant_cells}
 use Rattle.edit_walk.proofs.OfCells.PaintLaws.{old_block, old_has}
-use Rattle.edit_copy.specs.Copies.{MakesCopy, AreBlocks, IsSource, IsOffset, IsBegin, rest_of}
-use Rattle.edit_copy.proofs.CopyLaws.{makes_octant, kept_part}
+use Rattle.edit_copy.specs.Copies.{MakesCopy, AreBlocks, AreTaken, IsOffset, IsBegin, rest_of}
+use Rattle.edit_copy.proofs.CopyLaws.{makes_taken, kept_part}
 use Rattle.edit_copy.proofs.WindowLaws.{step_begins}
 use Rattle.edit_copy.proofs.copies.CopyTaskTask.octant.Goals as goal
 
@@ -19,8 +19,8 @@ pub kept_old-old-requires-clause-block : goal.kept_old-old-requires-clause-block
 kept_old-old-requires-clause-block g c =
     let (base, cells, keeps, m) = c.requires.task in old_has base _ _ _ _ keeps m.is_old
 
-pub sources_in-sources-requires-clause-sources : goal.sources_in-sources-requires-clause-sources
-sources_in-sources-requires-clause-sources g c =
+pub taken_in-sources-requires-clause-sources : goal.taken_in-sources-requires-clause-sources
+taken_in-sources-requires-clause-sources g c =
     let (base, cells, keeps, m) = c.requires.task in (
       m.row,
       subst (λ (s : StoreState). AreBlocks s.held c.args.level c.args.self.now.sources m.row)
@@ -31,8 +31,8 @@ sources_in-sources-requires-clause-sources g c =
           }),
     )
 
-pub sources_in-sources-requires-clause-at : goal.sources_in-sources-requires-clause-at
-sources_in-sources-requires-clause-at g c =
+pub taken_in-sources-requires-clause-at : goal.taken_in-sources-requires-clause-at
+taken_in-sources-requires-clause-at g c =
     let (base, cells, keeps, m) = c.requires.task in
     let up : c.args.level ≡ suc (c.args.level - 1) = omega (arith, c.requires.level) in
     let o = subst (λ (l : ℕ). IsOffset l c.args.self.now.offset) up m.offset in
@@ -43,7 +43,7 @@ pub returns-clause-task : goal.returns-clause-task
 returns-clause-task g c base cells keeps m =
     let k = c.args.octant in
     let below : ℕ = c.args.level - 1 in
-    let sources = c.sources_in-sources.result in
+    let sources = c.taken_in-sources.result in
     let held = (g.B.Blocks.seen c.kept_old-old.new.store).held in
     let part =
     c.part_of-part.ensures.part
@@ -55,18 +55,20 @@ returns-clause-task g c base cells keeps m =
       each = λ i l. old_block base _ c.args.level (m.row i) _ keeps
           (m.sources.each i l);
     }) in
-    let source = λ (j : ℕ) (l : j < 8).
-    subst (λ (at : Cell). IsSource held below m.row at (rest_of below k c.args.self.now.offset) j
-    (name_in sources j)) c.step_to-step.ensures.at
-    (subst (λ (o : Cell). IsSource held below m.row c.step_to-step.result.at o j
-    (name_in sources j)) c.step_to-step.ensures.rest
-    (c.sources_in-sources.ensures.sources m.row rows j l))
+    let taken =
+    subst (λ (at : Cell). AreTaken held below m.row at (rest_of below k c.args.self.now.offset)
+    (part_in (block_side below) c.args.self.now.part k) sources) c.step_to-step.ensures.at
+    (subst (λ (o : Cell). AreTaken held below m.row c.step_to-step.result.at o
+    (part_in (block_side below) c.args.self.now.part k) sources) c.step_to-step.ensures.rest
+    (subst (λ (b : Boxed). AreTaken held below m.row c.step_to-step.result.at
+    c.step_to-step.result.rest b sources) part
+    (c.taken_in-sources.ensures.sources m.row rows)))
     in
     let made =
-    makes_octant base c.args.level c.args.self.now cells k c.kept_old-old.result sources c.requires.level c.requires.octant m
+    makes_taken base held c.args.level c.args.self.now cells k c.kept_old-old.result sources c.requires.level c.requires.octant m
     (kept_part _ c.args.level _ k _ _ _ m.tree part
     (old_block base _ c.args.level m.tree _ keeps m.is_old) c.kept_old-old.ensures.old)
-    (λ j l e. sym ((source j l).read e).root) (λ j l e. (source j l).unread e)
+    taken
     in
     subst (λ (b : Boxed). MakesCopy
     (record { old = c.kept_old-old.result; sources = sources; offset = c.step_to-step.result.rest; part = b }) base below (octant_cells below cells k)) (sym part)
@@ -82,4 +84,4 @@ returns-clause-task g c base cells keeps m =
 
 pub returns-clause-rests : goal.returns-clause-rests
 returns-clause-rests g c =
-    g.met.B.Blocks.rests_on _ _ _ c.kept_old-old.ensures.rests c.sources_in-sources.ensures.rests
+    g.met.B.Blocks.rests_on _ _ _ c.kept_old-old.ensures.rests c.taken_in-sources.ensures.rests

@@ -1,16 +1,16 @@
 use Rattle.std.proofs.Common.{refl, sym, subst}
-use Rattle.std.proofs.lemmas.Bool.{false≢true}
 use Rattle.edit_walk.specs.declared.cells.tasks.Whole.{Whole}
 use Rattle.edit_walk.specs.cells.Tasks.{IsWhole}
+use Rattle.edit_walk.specs.cells.Worlds.{block_at_origin}
 use Rattle.edit_walk.proofs.OfCells.WorldLaws.{blocks_some}
 use Rattle.edit_copy.proofs.CopyLaws.{copy_missed, copy_shared, copy_none}
 use Rattle.edit_copy.proofs.copies.CopyTaskTask.whole.Goals as goal
 
-pub returns-then-not-meets-clause-whole : goal.returns-then-not-meets-clause-whole
-returns-then-not-meets-clause-whole c base cells m =
+pub returns-then-is_empty-clause-whole : goal.returns-then-is_empty-clause-whole
+returns-then-is_empty-clause-whole c base cells m =
     subst (λ (w : Whole). IsWhole base c.args.level cells w) (sym c.old_whole.ensures)
     (copy_missed base c.args.level c.args.self.now cells
-    (λ h. false≢true (c.if-not-meets.ensures.1 h)) m)
+    (c.if-is_empty.ensures refl (block_at_origin c.args.level)) m)
 
 pub returns-then-same_cells-clause-whole : goal.returns-then-same_cells-clause-whole
 returns-then-same_cells-clause-whole c base cells m =
