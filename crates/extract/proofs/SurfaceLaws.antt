@@ -1,11 +1,11 @@
 -- Surfaces, cell by cell, leaf by leaf and layer by layer.
-use Rattle.std.proofs.Common.{◌≡◌, ◌≢◌, ℕ, zero, suc, ◌+◌, ◌-◌, ◌*◌, ◌/◌, ◌%◌, ◌^◌, ◌<◌, ◌≤◌, max, Bool, false, List, [], ◌∷◌, ◌++◌, length, take, Option, Result, Ok, Err, refl, sym, ap, subst, ◌∙◌, arith, inl, inr, append_assoc, append-nil}
-use Rattle.std.specs.Prelude.{◌==◌, is_err, OnOk, bit_or, slice_index, slice_set}
+use Rattle.std.proofs.Common.{◌≡◌, ◌≢◌, ℕ, zero, suc, ◌+◌, ◌-◌, ◌*◌, ◌/◌, ◌%◌, ◌^◌, ◌<◌, ◌≤◌, max, min, Bool, false, List, [], ◌∷◌, ◌++◌, length, take, Option, Result, Ok, Err, refl, sym, ap, subst, ◌∙◌, arith, inl, inr, append_assoc, append-nil}
+use Rattle.std.specs.Prelude.{◌==◌, is_err, OnOk, bit_and, bit_or, slice_index, slice_set}
 use Rattle.std.specs.Int.{bit_at}
 use Rattle.std.proofs.lemmas.Bool.{cases_eq}
 use Rattle.std.proofs.lemmas.List.{take_at, get_or-set_same, get_or-set_other}
-use Rattle.std.proofs.lemmas.Nat.{mul-le}
-use Rattle.std.proofs.lemmas.Nat.Bits.{bit_at-zero, bit_at-lt, bit_at_or}
+use Rattle.std.proofs.lemmas.Nat.{mul-le, shr-shr}
+use Rattle.std.proofs.lemmas.Nat.Bits.{bit_at-zero, bit_at-lt, bit_at_and, bit_at_or, bit_at_ones}
 use Rattle.std.specs.declared.vec.Vec.{Vec}
 use Rattle.vw_cell.specs.declared.cells.Cell.{Cell}
 use Rattle.vw_cell.specs.declared.boxes.Boxed.{Boxed}
@@ -23,7 +23,7 @@ use Rattle.node_words.proofs.OfDescent.LookLaws.{root_side}
 use Rattle.extract.specs.Listing.{voxels_joined}
 use Rattle.extract.specs.Layers.{HasRoom, AppendsVoxels, HoldsLayer, IsSmallLayer, bits_show, leaves_along, leaves_in}
 use Rattle.extract.specs.Surface.{sides_number, bare_sides_of, voxel_of_sides, row_of_sides, layer_of_sides, surface_of_box}
-use Rattle.extract.specs.BareLayers.{HoldsBare, HoldsSlab, CountsBlank, CountsFrom, IsAny, IsBlank, leaf_at, leaf_sides, part_of_row, run_of_sides}
+use Rattle.extract.specs.BareLayers.{HoldsBare, HoldsSlab, CountsBlank, CountsFrom, IsAny, IsBlank, IsRowUnset, leaf_at, leaf_sides, part_of_row, run_of_sides}
 use Rattle.extract.specs.declared.bare_layers.BareLayer.{BareLayer}
 use Rattle.extract.specs.declared.bare_layers.BareLeaf.{BareLeaf}
 use Rattle.extract.specs.declared.bare_layers.Slab.{Slab}
@@ -178,6 +178,36 @@ no_any leaf any h e = record {
       ∙ ap (λ (bit : ℕ). bit == 1) (bit_at-zero (bit_number c.x c.y c.z)));
 }
 
+-- a row of which no cell is set
+bit_moved : (n k i j : ℕ) → j ≡ k + i → bit_at (n / 2 ^ k) i ≡ bit_at n j
+bit_moved n k i j e =
+    ap (λ (m : ℕ). m % 2) (shr-shr n k i) ∙ ap (λ (q : ℕ). bit_at n q) (sym e)
+
+low_bits : (word i : ℕ) → i < 4 → bit_and word 15 ≡ 0 → bit_at word i ≡ 0
+low_bits word i lt none =
+    let ones : bit_at 15 i ≡ 1 = bit_at_ones 4 i lt in
+    let both : min (bit_at word i) (bit_at 15 i) ≡ 0 =
+    sym (bit_at_and word 15 i) ∙ ap (λ (w : ℕ). bit_at w i) none ∙ bit_at-zero i in
+    let small = bit_at-lt word i in
+    omega (arith, ones, both, small)
+
+pub row_unset : (bits row y z : ℕ) → row ≡ 4 * y + 16 * z → bit_and (bits / 2 ^ row) 15 ≡ 0
+    → IsRowUnset bits y z
+row_unset bits row y z e none = record {
+  each = λ x lt.
+      let at : bit_number x y z ≡ row + x = omega (arith, e) in
+      ap (λ (bit : ℕ). bit == 1)
+      (sym (bit_moved bits row x (bit_number x y z) at) ∙ low_bits (bits / 2 ^ row) x lt none);
+}
+
+pub no_row : (leaf : BareLeaf) (any n : ℕ) (at to : Cell) → IsAny leaf any → at.x + n ≤ 4
+    → IsRowUnset any at.y at.z → run_of_sides leaf at n to ≡ []
+no_row leaf any n at to h fits row =
+    none_below n _ (λ p lt.
+    let inside : at.x + p < 4 = omega (arith, fits, lt) in
+    ap (λ (s : ℕ). voxel_of_sides s (to.x + p) to.y to.z)
+    (h.unset (cell_at (at.x + p) at.y at.z) (row.each (at.x + p) inside)))
+
 -- a cell without a bare side, and one with some
 pub no_sides : {Z : Type 0} (n x y z : ℕ) (v : Vec Voxel Z) → n ≡ 0
     → AppendsVoxels (voxel_of_sides n x y z) v v
@@ -236,6 +266,24 @@ pub counts_all : (words : BareLayer) (blanks : List ℕ) (n m run : ℕ) → m �
     → CountsFrom words blanks n m run → CountsBlank words blanks n
 counts_all words blanks n m run e counts =
     record { each = λ j i below lt. counts.each j i (omega (arith, e)) below lt }
+
+-- one leaf's cells with a bare side more
+pub any_more : (words : BareLayer) (anys : List ℕ) (n m any : ℕ) → m < length anys
+    → IsAny (leaf_at words m) any
+    → ((j : ℕ) → m + 1 ≤ j → j < n → IsAny (leaf_at words j) (slice_index anys j))
+    → (j : ℕ) → m ≤ j → j < n → IsAny (leaf_at words j) (slice_index (slice_set anys m any) j)
+any_more words anys n m any inside here rest j from below = elim (cases_eq j m) [
+  | inl same ↦
+      let told : slice_index (slice_set anys m any) j ≡ any =
+      ap (slice_index (slice_set anys m any)) same ∙ get_or-set_same anys m any 0 inside in
+      subst (λ (w : ℕ). IsAny (leaf_at words j) w) (sym told)
+      (subst (λ (k : ℕ). IsAny (leaf_at words k) any) (sym same) here)
+  | inr other ↦
+      let told : slice_index (slice_set anys m any) j ≡ slice_index anys j =
+      get_or-set_other anys m j any 0 other in
+      subst (λ (w : ℕ). IsAny (leaf_at words j) w) (sym told)
+      (rest j (omega (arith, from, other)) below)
+]
 
 -- one layer of leaves more
 pub slab_more : (z n : ℕ) (f : ℕ → List Voxel) (old mid new : List Voxel)

@@ -44,6 +44,14 @@ leaf_sides leaf c =
 pub record IsAny (leaf : BareLeaf) (any : ℕ) : Type 0 where
   pub unset : (c : Cell) → bits_show any c ≡ false → leaf_sides leaf c ≡ 0
 
+-- the same of the words of the first n leaves
+pub record HaveAny (words : BareLayer) (anys : List ℕ) (n : ℕ) : Type 0 where
+  pub each : (m : ℕ) → m < n → IsAny (leaf_at words m) (slice_index anys m)
+
+-- no cell of a row of a leaf is set in a word
+pub record IsRowUnset (bits y z : ℕ) : Type 0 where
+  pub each : (x : ℕ) → x < 4 → bits_show bits (cell_at x y z) ≡ false
+
 -- no cell of the leaf has a bare side
 pub record IsBlank (leaf : BareLeaf) : Type 0 where
   pub each : (c : Cell) → leaf_sides leaf c ≡ 0
@@ -61,6 +69,7 @@ pub record CountsFrom (words : BareLayer) (blanks : List ℕ) (n m run : ℕ) : 
 -- a layer of leaves of a world of this side, with what is counted of it
 pub record HoldsSlab (slab : Slab) (b : Boxed) (layer side : ℕ) (cells : Cell → Bool) : Type 0 where
   pub bare : HoldsBare slab.words b layer side cells
+  pub any : HaveAny slab.words slab.anys (leaves_in b)
   pub blank : CountsBlank slab.words slab.blanks (leaves_in b)
 
 -- a row of n cells of a leaf from `at` on, told as places from `to` on

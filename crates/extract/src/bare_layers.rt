@@ -8,7 +8,7 @@ ghost use Rattle.measure.specs.Faces.{passes_exposed};
 ghost use Rattle.measure.specs.Tallies.{IsWholeTally};
 ghost use Rattle.extract.specs.Layers.{IsSmallLayer, leaves_in};
 ghost use Rattle.extract.specs.Sides.{leaf_towards, words_towards};
-ghost use Rattle.extract.specs.BareLayers.{HoldsBare, HoldsSlab, CountsBlank, IsAny, IsBlank, leaf_at, leaf_sides};
+ghost use Rattle.extract.specs.BareLayers.{HoldsBare, HoldsSlab, CountsBlank, HaveAny, IsAny, IsBlank, leaf_at, leaf_sides};
 
 use crate::leaves::{clear, leaves_of};
 use crate::side_walks::fill_sides;
@@ -39,10 +39,12 @@ pub(crate) struct BareLeaf {
     pub(crate) high_z: u64,
 }
 
-/// The leaves of a layer, and how many from each on have no cell with a bare side.
+/// The leaves of a layer, which cells of each have a bare side, and how many leaves from each on
+/// have none.
 #[derive(Drop)]
 pub(crate) struct Slab {
     pub(crate) words: BareLayer,
+    pub(crate) anys: [u64; 4225],
     pub(crate) blanks: [u8; 4225],
 }
 
@@ -58,6 +60,7 @@ impl Slab {
                 low_z: [0; 4225],
                 high_z: [0; 4225],
             },
+            anys: [0; 4225],
             blanks: [0; 4225],
         }
     }
@@ -89,29 +92,34 @@ pub(crate) fn gather_slab<B: Blocks>(
     ensures rests { B.rests store.old store.new }
 {
     gather_sides(store, wholes, level, block, b, z, &mut slab.words);
-    count_blanks(&slab.words, leaves_of(b), &mut slab.blanks);
+    count_blanks(&slab.words, leaves_of(b), &mut slab.anys, &mut slab.blanks);
 }
 
-// Counts for each of the first leaves how many from it on have no cell with a bare side.
-fn count_blanks(words: &BareLayer, n: usize, blanks: &mut [u8; 4225])
+// Notes for each of the first leaves which of its cells have a bare side, and how many leaves from
+// it on have none.
+fn count_blanks(words: &BareLayer, n: usize, anys: &mut [u64; 4225], blanks: &mut [u8; 4225])
     requires { n ≤ 4225 }
-    ensures { CountsBlank words.now blanks.new n }
+    ensures any { HaveAny words.now anys.new n }
+    ensures blank { CountsBlank words.now blanks.new n }
 {
     let mut run = 0;
     let mut m = n;
     while m > 0 {
         m -= 1;
-        run = blank_run(leaf_of(words, m), run);
+        let any = any_of(leaf_of(words, m));
+        run = blank_run(any, run);
+        anys[m] = any;
         blanks[m] = run;
     }
 }
 
-// How many leaves from one on are blank, where so many behind it are.
-fn blank_run(leaf: BareLeaf, behind: u8) -> u8
+// How many leaves from one on are blank, where these of its cells have a bare side and so many
+// leaves behind it are blank.
+fn blank_run(any: u64, behind: u8) -> u8
     ensures within { result ≤ behind + 1 }
-    ensures blank { 1 ≤ result → IsBlank leaf }
+    ensures blank { 1 ≤ result → any ≡ 0 }
 {
-    if any_of(leaf) == 0 {
+    if any == 0 {
         behind.saturating_add(1)
     } else {
         0

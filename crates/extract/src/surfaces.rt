@@ -1,4 +1,4 @@
-ghost use Rattle.std.specs.Prelude.{◌≡◌, ℕ, ◌+◌, ◌-◌, ◌*◌, ◌/◌, ◌<◌, ◌≤◌, ◌^◌, ◌++◌, take, length, Bool, OnOk, OnErr, option_copied};
+ghost use Rattle.std.specs.Prelude.{◌≡◌, ℕ, ◌+◌, ◌-◌, ◌*◌, ◌/◌, ◌<◌, ◌≤◌, ◌^◌, ◌++◌, take, length, Bool, OnOk, OnErr, option_copied, slice_index};
 ghost use Rattle.vw_cell.specs.declared.cells.Cell.{Cell};
 ghost use Rattle.vw_cell.specs.Places.{FitsAt, IsInWorld, block_side};
 ghost use Rattle.node_words.specs.descent.Answers.{AreRight};
@@ -9,9 +9,9 @@ ghost use Rattle.measure.specs.Tallies.{IsWholeTally};
 ghost use Rattle.extract.specs.Listing.{voxels_joined};
 ghost use Rattle.extract.specs.Layers.{IsRow, IsSmallLayer, HasRoom, AppendsVoxels, leaves_along, leaves_in};
 ghost use Rattle.extract.specs.Surface.{bare_sides_of, layer_of_sides, row_of_sides, surface_of_box, voxel_of_sides};
-ghost use Rattle.extract.specs.BareLayers.{HoldsSlab, IsAny, leaf_sides, part_of_row, run_of_sides};
+ghost use Rattle.extract.specs.BareLayers.{HoldsSlab, IsAny, IsRowUnset, leaf_at, leaf_sides, part_of_row, run_of_sides};
 
-use crate::bare_layers::{BareLeaf, Slab, any_of, gather_slab, leaf_of, sides_at};
+use crate::bare_layers::{BareLeaf, Slab, gather_slab, leaf_of, sides_at};
 use crate::rows::{row_start, run_length};
 use measure::{ExposedSides, WholeBlock};
 use node_words::{Answers, Blocks, Name, Share, leaf_has, name_of};
@@ -227,13 +227,12 @@ fn step_in_room(
         return blank_cells(blank, x % 4, left);
     }
     let n = run_length(x, left);
-    let leaf = leaf_of(&slab.words, m);
     let at = Cell {
         x: x % 4,
         y: (b.at.y + y) % 4,
         z: (b.at.z + z) % 4,
     };
-    run_in_room(leaf, at, n, Cell { x: p, y, z }, into);
+    run_in_room(slab, m, at, n, Cell { x: p, y, z }, into);
     n
 }
 
@@ -250,14 +249,42 @@ fn blank_cells(blank: u8, from: u16, left: u16) -> u16
     (4 * u16::from(blank) - from).min(left)
 }
 
-// Appends the cells of a row of a leaf that have bare sides.
-fn run_in_room(leaf: BareLeaf, at: Cell, n: u16, to: Cell, into: &mut Vec<Voxel>)
+// Appends the cells of a row of the m-th leaf that have bare sides. Where none has, the leaf isn't
+// read.
+fn run_in_room(slab: &Slab, m: usize, at: Cell, n: u16, to: Cell, into: &mut Vec<Voxel>)
+    requires m { m < 4225 }
+    requires any { IsAny (leaf_at slab.now.words m) (slice_index slab.now.anys m) }
+    requires row { IsRow 4 at n }
+    requires to { (to.x + n ≤ 256) × (to.y < 256) × (to.z < 256) }
+    requires room { HasRoom into.old (length (run_of_sides (leaf_at slab.now.words m) at n to)) }
+    ensures { AppendsVoxels (run_of_sides (leaf_at slab.now.words m) at n to) into.old into.new }
+{
+    let any = slab.anys[m];
+    if is_row_blank(any, at) {
+        return;
+    }
+    cells_in_room(leaf_of(&slab.words, m), any, at, n, to, into);
+}
+
+// Whether no cell of the row of a leaf that has this cell is among these.
+#[inline(always)]
+#[tactic(auto, using(crate::proofs::SurfaceLaws::row_unset))]
+fn is_row_blank(any: u64, at: Cell) -> bool
+    requires { (at.y < 4) × (at.z < 4) }
+    ensures { IsTrue result → IsRowUnset any at.y at.z }
+{
+    let row = 4 * at.y + 16 * at.z;
+    any >> row & 15 == 0
+}
+
+// Appends those cells of a row of a leaf that have bare sides.
+fn cells_in_room(leaf: BareLeaf, any: u64, at: Cell, n: u16, to: Cell, into: &mut Vec<Voxel>)
+    requires any { IsAny leaf any }
     requires row { IsRow 4 at n }
     requires to { (to.x + n ≤ 256) × (to.y < 256) × (to.z < 256) }
     requires room { HasRoom into.old (length (run_of_sides leaf at n to)) }
     ensures { AppendsVoxels (run_of_sides leaf at n to) into.old into.new }
 {
-    let any = any_of(leaf);
     for p in 0..n {
         let c = Cell { x: at.x + p, ..at };
         cell_in_room(leaf, any, c, Cell { x: to.x + p, ..to }, into);

@@ -20,6 +20,7 @@ use Rattle.node_words.specs.Keys.{ChildFits, bucket_of_key, of_node}
 use Rattle.node_words.specs.Plans.{IsPlan, Layout, buckets_at}
 use Rattle.node_words.proofs.HeldLaws.{child_level, children_canonical, gains_held, gains_keeps, held_reached, reached_child, reached_levels, reached_more, row_held}
 use Rattle.node_words.proofs.KeyLaws.{key_bucket}
+use Rattle.table_rule.specs.ViewFacts.{most_before_freeing}
 use Rattle.core_laws.specs.places.KeyWords.{key_word}
 use Rattle.core_laws.specs.places.Names.{IsName, named}
 use Rattle.core_laws.specs.places.WordIds.{WordId, key_words}
@@ -406,7 +407,7 @@ module _ (v u w x : SeatView) (level bucket : ℕ) (names children : List (Optio
     over = held_over v u w level bucket names row n q s at has r tells_then;
   })
 
-  pub room_now : number_of_trees v.held ≤ 4088 → number_of_trees x.held ≤ 4089
+  pub room_now : number_of_trees v.held ≤ 4088 → number_of_trees x.held ≤ most_before_freeing
   room_now le =
       (let one = raised_number v u w level bucket names row n q s at has r tells_then in
       let same = ap (λ (y : SeatView). number_of_trees y.held) now in omega arith)

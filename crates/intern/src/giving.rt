@@ -4,6 +4,7 @@ ghost use Rattle.node_words.specs.shapes.Tree.{Tree, root_of};
 ghost use Rattle.node_words.specs.shapes.Weights.{number_of_trees};
 ghost use Rattle.node_words.specs.Gathering.{Loses, LosesAll, MayHold};
 ghost use Rattle.node_words.specs.Held.{ForChildren};
+ghost use Rattle.table_rule.specs.ViewFacts.{most_before_freeing};
 ghost use Rattle.node_table.specs.Acts.{OnlySharesChange};
 ghost use Rattle.node_table.specs.TableStates.{BelongsTo};
 ghost use Rattle.intern.specs.Nodes.{HoldsBelow, IsHeldBelow};
@@ -24,7 +25,7 @@ pub(crate) fn give_row<R: Wait, L: Ledger>(
     requires of { BelongsTo table.now pass.old }
     requires idle { pass.old.view.turn ≡ None }
     requires held { HoldsBelow pass.old.view.held children }
-    requires room { number_of_trees pass.old.view.held ≤ 4089 }
+    requires room { number_of_trees pass.old.view.held ≤ most_before_freeing }
     ensures of { BelongsTo table.now pass.new }
     ensures only { OnlySharesChange pass.old.view pass.new.view }
     ensures loses { ForChildren pass.old.view.held children
@@ -50,7 +51,7 @@ fn give_kept<R: Wait, L: Ledger>(
     requires of { BelongsTo table.now pass.old }
     requires idle { pass.old.view.turn ≡ None }
     requires kept { IsHeldBelow pass.old.view.held child }
-    requires room { number_of_trees pass.old.view.held ≤ 4089 }
+    requires room { number_of_trees pass.old.view.held ≤ most_before_freeing }
     ensures of { BelongsTo table.now pass.new }
     ensures only { OnlySharesChange pass.old.view pass.new.view }
     ensures loses { (t : Tree) → root_of t ≡ child → MayHold pass.old.view.held t

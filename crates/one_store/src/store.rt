@@ -221,6 +221,13 @@ impl OneStore {
         let _number = self.number;
     }
 
+    /// The plan.
+    pub fn plan(&self) -> Plan
+        ensures { result ≡ self.now.words.plan }
+    {
+        self.words.plan()
+    }
+
     /// How many shares are held.
     pub fn number(&self) -> u32
         ensures number { result ≡ number_of_trees (known_state self.now).held }

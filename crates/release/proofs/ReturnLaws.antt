@@ -11,6 +11,7 @@ use Rattle.node_words.specs.Gathering.{Loses, LosesAll, MayHold}
 use Rattle.node_words.specs.Held.{AreBelow, AreHeld, Gains, HoldsName, IsHeld, IsUnheldBranch, ReturnsWithin, name_in}
 use Rattle.node_words.proofs.GatherLaws.{may_next}
 use Rattle.node_words.proofs.HeldLaws.{child_level, held_reached, reached_levels}
+use Rattle.table_rule.specs.ViewFacts.{most_before_freeing}
 use Rattle.node_table.specs.ViewFacts.{ViewFacts}
 use Rattle.node_table.specs.Views.{SeatView}
 use Rattle.node_table.proofs.OnlyShares.{only_held, only_itself, only_on}
@@ -181,11 +182,11 @@ children_below v t n children tells h root are =
 
 -- and there is room for them
 pub children_room : (v m : SeatView) (t : Tree) (n : Name) → ViewFacts v → IsHeld v.held t
-    → root_of t ≡ Some n → FreesUnderTurn v t m → number_of_trees v.held + 8 * n.level ≤ 4089
-    → number_of_trees m.held + 8 * (n.level - 1) ≤ 4089
+    → root_of t ≡ Some n → FreesUnderTurn v t m → number_of_trees v.held + 8 * n.level ≤ most_before_freeing
+    → number_of_trees m.held + 8 * (n.level - 1) ≤ most_before_freeing
 children_room v m t n tells h root e room = go n.level refl
   where
-    go : (l : ℕ) → n.level ≡ l → number_of_trees m.held + 8 * (n.level - 1) ≤ 4089
+    go : (l : ℕ) → n.level ≡ l → number_of_trees m.held + 8 * (n.level - 1) ≤ most_before_freeing
     go zero same =
         (let none = no_row (λ _. 1) t 8
         (has_no_child v tells t n (held_reached v.held t h) root same) in
@@ -211,7 +212,7 @@ next_held v m children row k n lt are a e =
     }
 
 pub row_room : (v m : SeatView) (row : ℕ → Tree) (k room : ℕ) → LosesAll v.held row k m.held
-    → number_of_trees v.held + room ≤ 4089 → number_of_trees m.held + room ≤ 4089
+    → number_of_trees v.held + room ≤ most_before_freeing → number_of_trees m.held + room ≤ most_before_freeing
 row_room v m row k room a le = let w = a.weighs (λ _. 1) in omega arith
 
 -- what may be held, and is a node, is held
@@ -245,7 +246,7 @@ gave_within v w t n steps now root b =
 
 -- ten levels of eight children fit
 pub back_room : (v : SeatView) (n : Name) → ViewFacts v → v.plan.side ≤ 12 → HoldsName v.held n
-    → number_of_trees v.held ≤ 4008 → number_of_trees v.held + 8 * n.level ≤ 4089
+    → number_of_trees v.held ≤ 4008 → number_of_trees v.held + 8 * n.level ≤ most_before_freeing
 back_room v n tells side h room =
     let s = reached_levels v.plan.side v.held h.tree n tells.trees
     (held_reached v.held h.tree h.is_held) h.root in

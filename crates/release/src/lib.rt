@@ -21,6 +21,7 @@ ghost use Rattle.node_words.specs.Held.{
   ReachesName,
   ReturnsWithin,
 };
+ghost use Rattle.table_rule.specs.ViewFacts.{most_before_freeing, most_before_release};
 ghost use Rattle.node_table.specs.Acts.{OnlySharesChange};
 ghost use Rattle.node_table.specs.TableStates.{BelongsTo};
 ghost use Rattle.release.specs.Returns.{GaveBack, GaveRowBack};
@@ -91,7 +92,7 @@ pub fn back<R: Wait, L: Ledger>(
     requires of { BelongsTo table.now pass.old }
     requires idle { pass.old.view.turn ≡ None }
     requires held { HoldsName pass.old.view.held share }
-    requires room { number_of_trees pass.old.view.held ≤ 4008 }
+    requires room { number_of_trees pass.old.view.held ≤ most_before_release }
     ensures of { BelongsTo table.now pass.new }
     ensures held { ForHeld pass.old.view.held share
         (λ t. Gains pass.new.view.held t pass.old.view.held) }
@@ -116,7 +117,7 @@ fn release<R: Wait, L: Ledger>(
     requires of { BelongsTo table.now pass.old }
     requires idle { pass.old.view.turn ≡ None }
     requires held { HoldsName pass.old.view.held share }
-    requires room { number_of_trees pass.old.view.held + 8 * share.level ≤ 4089 }
+    requires room { number_of_trees pass.old.view.held + 8 * share.level ≤ most_before_freeing }
     ensures of { BelongsTo table.now pass.new }
     ensures back { ForHeld pass.old.view.held share
         (λ t. GaveBack pass.old.view t pass.new.view steps.old steps.new) }
@@ -142,7 +143,7 @@ fn release_row<R: Wait, L: Ledger>(
     requires idle { pass.old.view.turn ≡ None }
     requires below { AreBelow level children }
     requires held { HoldsChildren pass.old.view.held children }
-    requires room { number_of_trees pass.old.view.held + 8 * (level - 1) ≤ 4089 }
+    requires room { number_of_trees pass.old.view.held + 8 * (level - 1) ≤ most_before_freeing }
     ensures of { BelongsTo table.now pass.new }
     ensures back { ForChildren pass.old.view.held children
         (λ row. GaveRowBack pass.old.view row 8 pass.new.view steps.old steps.new) }
@@ -169,7 +170,7 @@ fn release_some<R: Wait, L: Ledger>(
     requires idle { pass.old.view.turn ≡ None }
     requires held { (n : Name) → child ≡ Some n → HoldsName pass.old.view.held n }
     requires below { (n : Name) → child ≡ Some n → n.level + 1 ≡ level }
-    requires room { number_of_trees pass.old.view.held + 8 * (level - 1) ≤ 4089 }
+    requires room { number_of_trees pass.old.view.held + 8 * (level - 1) ≤ most_before_freeing }
     ensures of { BelongsTo table.now pass.new }
     ensures back { (t : Tree) → root_of t ≡ child → MayHold pass.old.view.held t
         → GaveBack pass.old.view t pass.new.view steps.old steps.new }

@@ -4,6 +4,7 @@ use Rattle.std.specs.Borrow.{MutBor}
 use Rattle.std.specs.Prelude.{◌≡◌, ℕ, ◌+◌, ◌≤◌, List, [], ◌∷◌, drop, length, take}
 use Rattle.std.specs.declared.vec.Vec.{Vec}
 use Rattle.std.proofs.Common.{refl, subst, ◌∙◌}
+use Rattle.table_rule.specs.ViewFacts.{most_before_call}
 use Rattle.node_table.specs.TableStates.{TableState, PassState, SamePass}
 use Rattle.version_log.specs.declared.answers.Pinned.{Pinned}
 use Rattle.session.specs.Resting.{IsAtRest}
@@ -21,7 +22,7 @@ pub record IsReadyResponder (w : TableState) (number first most : ℕ) (s : Pass
   pub begun : first ≤ length pins
   pub holds : SeatHoldsPins w s.view (drop first pins)
   pub few : length pins ≤ most
-  pub fewer : most ≤ first + 3900
+  pub fewer : most ≤ first + most_before_call
   pub room : most ≤ capacity
 
 -- it is one of the same world, over the same session, and what it has lent stands where the

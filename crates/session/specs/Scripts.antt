@@ -3,6 +3,7 @@ use Rattle.std.specs.Prelude.{◌≡◌, ◌≤◌, List, []}
 use Rattle.script.specs.declared.commands.ScriptLine.{ScriptLine}
 use Rattle.script.specs.Fitting.{RisesFrom}
 use Rattle.table_rule.specs.Views.{SeatView}
+use Rattle.table_rule.specs.ViewFacts.{most_before_call}
 use Rattle.conformance.specs.sessions.Saves.{saves_asked_in}
 use Rattle.session.specs.SessionWorlds.{AreLinesOfWorld, SessionWorld}
 
@@ -17,4 +18,4 @@ pub record IsFresh (v : SeatView) : Type 0 where
 pub record IsScriptOf (w : SessionWorld) (lines : List ScriptLine) : Type 0 where
   pub rises : RisesFrom 1 lines
   pub fit : AreLinesOfWorld w lines
-  pub few : saves_asked_in lines ≤ 3900
+  pub few : saves_asked_in lines ≤ most_before_call

@@ -1,5 +1,6 @@
 //! Changes of a world: edits, undos and redos, and one attempt at an edit.
 ghost use Rattle.std.specs.Prelude.{◌≡◌, ◌∷◌, [], ℕ};
+ghost use Rattle.table_rule.specs.ViewFacts.{most_before_call};
 ghost use Rattle.act_rebuilds.specs.Balls.{ball_act};
 ghost use Rattle.act_rebuilds.specs.Boxes.{box_act};
 ghost use Rattle.history_model.specs.declared.acts.Act.TheVariants.{Copy};
@@ -70,7 +71,7 @@ impl World {
         act: &Act,
         gate: &G,
     ) -> ActAnswer
-        requires ready { IsReady self.now.table 3900 s.old }
+        requires ready { IsReady self.now.table most_before_call s.old }
         requires fits { IsActOf self.now act.now }
         ensures calls { Calls self.now.table s.old s.new }
         ensures told { (number : ℕ) → s.old.view.numbers ≡ number ∷ [] → ActSpec
@@ -91,7 +92,7 @@ impl World {
         line: u32,
         act: &Act,
     ) -> ActAnswer
-        requires ready { IsReady self.now.table 3900 s.old }
+        requires ready { IsReady self.now.table most_before_call s.old }
         requires fits { IsActOf self.now act.now }
         requires blank { IsBlankOf start.blank.name start.blank.parts L.name L.parts }
         ensures calls { Calls self.now.table s.old s.new }
@@ -108,7 +109,7 @@ impl World {
         line: u32,
         act: &Act,
     ) -> ActAnswer
-        requires ready { IsReady self.now.table 3900 s.old }
+        requires ready { IsReady self.now.table most_before_call s.old }
         requires fits { IsActOf self.now act.now }
         ensures calls { Calls self.now.table s.old s.new }
         ensures told { AnswersAct self.now line act.now result s.old.view s.new.view }
@@ -133,7 +134,7 @@ impl World {
         line: u32,
         act: &Act,
     ) -> ActAnswer
-        requires ready { IsReady self.now.table 3900 s.old }
+        requires ready { IsReady self.now.table most_before_call s.old }
         requires edit { IsEditOf self.now act.now }
         ensures calls { Calls self.now.table s.old s.new }
         ensures told { AnswersAct self.now line act.now result s.old.view s.new.view }
@@ -154,7 +155,7 @@ impl World {
         line: u32,
         act: &Act,
     ) -> ActAnswer
-        requires ready { IsReady self.now.table 3900 s.old }
+        requires ready { IsReady self.now.table most_before_call s.old }
         requires edit { IsEditOf self.now act.now }
         ensures calls { Calls self.now.table s.old s.new }
         ensures told { AnswersAct self.now line act.now result s.old.view s.new.view }
@@ -176,7 +177,7 @@ impl World {
         b: Boxed,
         set: bool,
     ) -> ActAnswer
-        requires ready { IsReady self.now.table 3900 s.old }
+        requires ready { IsReady self.now.table most_before_call s.old }
         requires act { act.now ≡ box_act set b }
         requires edit { IsEditOf self.now act.now }
         ensures calls { Calls self.now.table s.old s.new }
@@ -199,7 +200,7 @@ impl World {
         ball: &Ball,
         set: bool,
     ) -> ActAnswer
-        requires ready { IsReady self.now.table 3900 s.old }
+        requires ready { IsReady self.now.table most_before_call s.old }
         requires act { act.now ≡ ball_act set ball.now }
         requires edit { IsEditOf self.now act.now }
         ensures calls { Calls self.now.table s.old s.new }
@@ -222,7 +223,7 @@ impl World {
         from: Boxed,
         to: Cell,
     ) -> ActAnswer
-        requires ready { IsReady self.now.table 3900 s.old }
+        requires ready { IsReady self.now.table most_before_call s.old }
         requires act { act.now ≡ Copy from to }
         requires edit { IsEditOf self.now act.now }
         ensures calls { Calls self.now.table s.old s.new }
@@ -245,7 +246,7 @@ impl World {
         act: &Act,
         maker: &mut M,
     ) -> ActAnswer
-        requires ready { IsReady self.now.table 3900 s.old }
+        requires ready { IsReady self.now.table most_before_call s.old }
         requires fits { IsActOf self.now act.now }
         requires act { M.act maker.old ≡ act.now }
         requires maker { MayBeMade self.now.table (M.drawn maker.old) (M.act maker.old)
@@ -279,7 +280,7 @@ impl World {
         line: u32,
         act: &Act,
     ) -> OnceAnswer
-        requires ready { IsReady self.now.table 3900 s.old }
+        requires ready { IsReady self.now.table most_before_call s.old }
         requires edit { IsEditOf self.now act.now }
         ensures calls { Calls self.now.table s.old s.new }
         ensures told { AnswersOnce self.now line act.now result s.old.view s.new.view }
@@ -312,7 +313,7 @@ impl World {
         act: &Act,
         gate: &G,
     ) -> OnceAnswer
-        requires ready { IsReady self.now.table 3900 s.old }
+        requires ready { IsReady self.now.table most_before_call s.old }
         requires edit { IsEditOf self.now act.now }
         ensures calls { Calls self.now.table s.old s.new }
         ensures told { (number : ℕ) → s.old.view.numbers ≡ number ∷ [] → OnceSpec
@@ -333,7 +334,7 @@ impl World {
         line: u32,
         act: &Act,
     ) -> OnceAnswer
-        requires ready { IsReady self.now.table 3900 s.old }
+        requires ready { IsReady self.now.table most_before_call s.old }
         requires edit { IsEditOf self.now act.now }
         requires blank { IsBlankOf start.blank.name start.blank.parts L.name L.parts }
         ensures calls { Calls self.now.table s.old s.new }

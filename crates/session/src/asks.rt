@@ -1,6 +1,7 @@
 //! What is asked of a version.
 ghost use Rattle.std.specs.Prelude.{◌≡◌, ◌^◌, true, ℕ, option_copied};
 ghost use Rattle.node_words.specs.descent.Roots.{HoldsRoot};
+ghost use Rattle.table_rule.specs.ViewFacts.{most_before_call};
 ghost use Rattle.session.specs.Lendable.{IsLendable};
 ghost use Rattle.script.specs.Fitting.{QuestionFits};
 ghost use Rattle.conformance.specs.Kinds.{is_resting};
@@ -107,7 +108,7 @@ impl World {
         version: Option<u32>,
         question: Question,
     ) -> Result<AskedAt, PinRefused>
-        requires ready { IsReady self.now.table 3900 s.old }
+        requires ready { IsReady self.now.table most_before_call s.old }
         requires fits { QuestionFits (side_seen self.now) question }
         ensures calls { Calls self.now.table s.old s.new }
         ensures told { (number : ℕ) → AskSpec (of_world self.now number) version question
@@ -127,7 +128,7 @@ impl World {
         version: Option<u32>,
         question: Question,
     ) -> Result<AskedAt, PinRefused>
-        requires ready { IsReady self.now.table 3900 s.old }
+        requires ready { IsReady self.now.table most_before_call s.old }
         requires fits { QuestionFits (side_seen self.now) question }
         requires blank { IsBlankOf start.blank.name start.blank.parts L.name L.parts }
         ensures calls { Calls self.now.table s.old s.new }

@@ -1,5 +1,6 @@
 // Attempts at an edit: each makes its root of the newest version that the session has seen.
 ghost use Rattle.std.specs.Prelude.{OnErr, OnOk, option_copied};
+ghost use Rattle.table_rule.specs.ViewFacts.{most_before_call};
 ghost use Rattle.session.specs.Lendable.{IsLendable, StaysLendable};
 ghost use Rattle.version_log.specs.Coming.{CommitCame};
 ghost use Rattle.session.specs.Attempts.{Attempts, HasPinnedHead, HoldsHead, MakesNext};
@@ -46,7 +47,7 @@ impl World {
         requires ready { IsLendable self.now.table s.old }
         requires maker { MayBeMade self.now.table (M.drawn maker.old) (M.act maker.old)
             (M.recalls maker.old s.old.view.held) }
-        requires head { HoldsHead 3909 s.old.view (option_copied base) }
+        requires head { HoldsHead (most_before_call + 9) s.old.view (option_copied base) }
         ensures stays { StaysLendable self.now.table s.old s.new }
         ensures edit { SameEdit (M.drawn maker.new) (M.drawn maker.old) (M.act maker.new)
             (M.act maker.old) }
@@ -91,7 +92,7 @@ impl World {
         line: u32,
         maker: &mut M,
     ) -> Result<EditAnswer, StaleRoot>
-        requires ready { IsReady self.now.table 3901 s.old }
+        requires ready { IsReady self.now.table (most_before_call + 1) s.old }
         requires maker { MayBeMade self.now.table (M.drawn maker.old) (M.act maker.old)
             (M.recalls maker.old s.old.view.held) }
         requires base { HasPinnedHead s.old.view base.now }

@@ -4,6 +4,7 @@ ghost use Rattle.node_words.specs.shapes.Weights.{number_of_trees};
 ghost use Rattle.edit_walk.specs.blocks.Blocks.{ReturnsShare, MayGoBack};
 ghost use Rattle.node_words.specs.Held.{OnlyHeldChanges};
 ghost use Rattle.table_rule.specs.Views.{seen_of};
+ghost use Rattle.table_rule.specs.ViewFacts.{most_before_call, most_before_release};
 ghost use Rattle.session.specs.Lendable.{IsLendable, StaysLendable};
 ghost use Rattle.conformance.specs.sessions.CallSpecs.{ForgetSpec};
 ghost use Rattle.session.specs.Resting.{Calls, IsBlankOf, IsReady};
@@ -28,7 +29,7 @@ impl World {
     )
         requires ready { IsLendable self.now.table s.old }
         requires held { MayGoBack s.old.view.held root }
-        requires room { number_of_trees s.old.view.held ≤ 4008 }
+        requires room { number_of_trees s.old.view.held ≤ most_before_release }
         ensures stays { StaysLendable self.now.table s.old s.new }
         ensures gone { ReturnsShare root s.old.view.held s.new.view.held }
         ensures only { OnlyHeldChanges (seen_of s.old.view) (seen_of s.new.view) }
@@ -45,7 +46,7 @@ impl World {
         line: u32,
         version: u32,
     ) -> Result<u32, ForgetRefused>
-        requires ready { IsReady self.now.table 3900 s.old }
+        requires ready { IsReady self.now.table most_before_call s.old }
         ensures calls { Calls self.now.table s.old s.new }
         ensures told { (number : ℕ) → s.old.view.numbers ≡ number ∷ [] → ForgetSpec
             (of_world self.now number) line version (session_view s.old.view)
@@ -65,7 +66,7 @@ impl World {
         line: u32,
         version: u32,
     ) -> Result<u32, ForgetRefused>
-        requires ready { IsReady self.now.table 3900 s.old }
+        requires ready { IsReady self.now.table most_before_call s.old }
         requires blank { IsBlankOf start.blank.name start.blank.parts L.name L.parts }
         ensures calls { Calls self.now.table s.old s.new }
         ensures told { (number : ℕ) → s.old.view.numbers ≡ number ∷ [] → ForgetSpec

@@ -1,6 +1,7 @@
 //! Versions that are pinned, and what goes back.
 ghost use Rattle.std.specs.Prelude.{◌≡◌};
 ghost use Rattle.edit_walk.specs.blocks.Blocks.{ReturnsShare, MayGoBack};
+ghost use Rattle.table_rule.specs.ViewFacts.{most_before_call, most_before_release};
 ghost use Rattle.version_log.specs.Pins.{IsPinned};
 ghost use Rattle.version_log.specs.Roots.{GetsRoot};
 ghost use Rattle.version_log.specs.Seeing.{OnlyReadsLog};
@@ -24,7 +25,7 @@ impl World {
         s: &mut Session,
         version: Option<u32>,
     ) -> Result<Pinned, PinRefused>
-        requires ready { IsReady self.now.table 3900 s.old }
+        requires ready { IsReady self.now.table most_before_call s.old }
         ensures back { ReturnsAtRest self.now.table s.old s.new }
         ensures looks { OnlyReadsLog s.old.view s.new.view }
         ensures came { PinCame version result s.old.view s.new.view }
@@ -42,7 +43,7 @@ impl World {
         start: CallStart<'_, R, ()>,
         version: Option<u32>,
     ) -> Result<Pinned, PinRefused>
-        requires ready { IsReady self.now.table 3900 s.old }
+        requires ready { IsReady self.now.table most_before_call s.old }
         requires blank { IsBlankOf start.blank.name start.blank.parts L.name L.parts }
         ensures back { ReturnsAtRest self.now.table s.old s.new }
         ensures looks { OnlyReadsLog s.old.view s.new.view }
@@ -54,7 +55,7 @@ impl World {
 
     /// Gives back what was pinned.
     pub fn unpin<R: Wait>(&self, rt: &R, s: &mut Session, p: Pinned)
-        requires ready { IsReady self.now.table 3901 s.old }
+        requires ready { IsReady self.now.table (most_before_call + 1) s.old }
         requires pinned { IsPinned s.old.view p }
         ensures back { ReturnsAtRest self.now.table s.old s.new }
         ensures seen { session_view s.new.view ≡ session_view s.old.view }
@@ -77,7 +78,7 @@ impl World {
         start: CallStart<'_, R, ()>,
         root: Option<Share>,
     )
-        requires ready { IsReady self.now.table 4008 s.old }
+        requires ready { IsReady self.now.table most_before_release s.old }
         requires held { MayGoBack s.old.view.held root }
         requires blank { IsBlankOf start.blank.name start.blank.parts L.name L.parts }
         ensures back { ReturnsAtRest self.now.table s.old s.new }
@@ -95,7 +96,7 @@ impl World {
         call: &mut CallContext<'_, R, G, L>,
         root: Option<Share>,
     )
-        requires ready { IsReady self.now.table 4008 s.old }
+        requires ready { IsReady self.now.table most_before_release s.old }
         requires held { MayGoBack s.old.view.held root }
         ensures back { ReturnsAtRest self.now.table s.old s.new }
         ensures seen { session_view s.new.view ≡ session_view s.old.view }
@@ -110,7 +111,7 @@ impl World {
         s: &mut Session,
         call: &mut CallContext<'_, R, G, L>,
     ) -> Pinned
-        requires ready { IsReady self.now.table 3900 s.old }
+        requires ready { IsReady self.now.table most_before_call s.old }
         ensures back { ReturnsAtRest self.now.table s.old s.new }
         ensures looks { OnlyReadsLog s.old.view s.new.view }
         ensures head { HasPinnedHead s.new.view result }

@@ -5,6 +5,7 @@ ghost use Rattle.vw_cell.specs.Counts.{number_in};
 ghost use Rattle.vw_cell.specs.Places.{FitsAt};
 ghost use Rattle.history_model.specs.Stores.{store_has};
 ghost use Rattle.table_rule.specs.LogFacts.{seen_has};
+ghost use Rattle.table_rule.specs.ViewFacts.{most_before_call};
 ghost use Rattle.session.specs.Lendable.{IsLendable};
 ghost use Rattle.version_log.specs.declared.answers.Pinned.{Pinned};
 ghost use Rattle.version_log.specs.Pins.{IsPinned};
@@ -67,7 +68,7 @@ impl World {
         version: Option<u32>,
         part: Boxed,
     ) -> Result<PinnedSave, PinRefused>
-        requires ready { IsReady self.now.table 3900 s.old }
+        requires ready { IsReady self.now.table most_before_call s.old }
         requires fits { FitsAt part.at part.size (side_seen self.now) }
         ensures back { ReturnsAtRest self.now.table s.old s.new }
         ensures told { (number : ℕ) → SaveSpec (of_world self.now number) version part
@@ -116,7 +117,7 @@ impl World {
     pub fn unpin_saves<R: Wait>(&self, rt: &R, s: &mut Session, saves: Vec<Pinned>)
         requires rest { IsAtRest self.now.table s.old }
         requires holds { SeatHoldsPins self.now.table s.old.view saves.items }
-        requires few { length saves.items ≤ 3900 }
+        requires few { length saves.items ≤ most_before_call }
         ensures back { ReturnsAtRest self.now.table s.old s.new }
         ensures seen { session_view s.new.view ≡ session_view s.old.view }
         ensures none { s.new.view.held ≡ [] }
@@ -134,7 +135,7 @@ fn unpin_over<R: Wait, L: Ledger>(
 )
     requires rest { IsAtRest world.now.table s.old }
     requires holds { SeatHoldsPins world.now.table s.old.view saves.items }
-    requires few { length saves.items ≤ 3900 }
+    requires few { length saves.items ≤ most_before_call }
     requires blank { IsBlankOf start.blank.name start.blank.parts L.name L.parts }
     ensures back { ReturnsAtRest world.now.table s.old s.new }
     ensures seen { session_view s.new.view ≡ session_view s.old.view }

@@ -1,5 +1,6 @@
 // An edit under the log's turn, while no other session commits.
 ghost use Rattle.std.specs.Prelude.{option_copied};
+ghost use Rattle.table_rule.specs.ViewFacts.{most_before_call};
 ghost use Rattle.session.specs.Attempts.{AnswersAct, HoldsHead, MayBeMade, act_answer};
 ghost use Rattle.session.specs.Resting.{Calls, HasLog, IsReady};
 
@@ -25,7 +26,7 @@ impl World {
         requires turn { HasLog self.now.table s.old }
         requires maker { MayBeMade self.now.table (M.drawn maker.old) (M.act maker.old)
             (M.recalls maker.old s.old.view.held) }
-        requires head { HoldsHead 3909 s.old.view (option_copied head) }
+        requires head { HoldsHead (most_before_call + 9) s.old.view (option_copied head) }
         ensures calls { Calls self.now.table s.old s.new }
         ensures told { AnswersAct self.now line (M.act maker.old) (act_answer result) s.old.view
             s.new.view }
@@ -56,7 +57,7 @@ impl World {
         line: u32,
         maker: &mut M,
     ) -> EditAnswer
-        requires ready { IsReady self.now.table 3902 s.old }
+        requires ready { IsReady self.now.table (most_before_call + 2) s.old }
         requires maker { MayBeMade self.now.table (M.drawn maker.old) (M.act maker.old)
             (M.recalls maker.old s.old.view.held) }
         ensures calls { Calls self.now.table s.old s.new }

@@ -2,6 +2,7 @@
 ghost use Rattle.std.specs.Prelude.{◌≡◌, ◌≤◌, false};
 ghost use Rattle.history_model.specs.Worlds.{is_edit};
 ghost use Rattle.node_words.specs.shapes.Weights.{number_of_trees};
+ghost use Rattle.table_rule.specs.ViewFacts.{most_before_call};
 ghost use Rattle.session.specs.Attempts.{AnswersAct, WayCame, nothing_to};
 ghost use Rattle.session.specs.Resting.{Calls, HasLog, IsReady, LooksInTurn};
 
@@ -77,7 +78,7 @@ impl World {
         line: u32,
         act: &Act,
     ) -> ActAnswer
-        requires ready { IsReady self.now.table 3900 s.old }
+        requires ready { IsReady self.now.table most_before_call s.old }
         requires other { is_edit act.now ≡ false }
         ensures calls { Calls self.now.table s.old s.new }
         ensures told { AnswersAct self.now line act.now result s.old.view s.new.view }

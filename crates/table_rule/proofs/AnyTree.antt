@@ -18,7 +18,7 @@ use Rattle.core_laws.proofs.Trees.{node_at-same}
 use Rattle.table_rule.specs.Reading.{book_of}
 use Rattle.table_rule.specs.Views.{SeatView, bucket_of, key_word_id, known_at}
 use Rattle.table_rule.specs.Rules.{MayWrite}
-use Rattle.table_rule.specs.ViewFacts.{ViewFacts, tree_word}
+use Rattle.table_rule.specs.ViewFacts.{ViewFacts, tree_word, most_before_freeing}
 use Rattle.table_rule.specs.Changes.{making, tree_for, children_of_key, meeting, wanted, IsReady, IsFullIn, Published, Lowered, Freed}
 use Rattle.table_rule.proofs.Publishing.{MayPublish, publishes}
 use Rattle.table_rule.proofs.Loads.{meets, peeks}
@@ -115,7 +115,7 @@ lowers_any p seat v t n book tells has held root known some =
 
 pub frees_any : (p : Layout) (seat : ℕ) (v : SeatView) (t : Tree) (n : Name) → ViewFacts v
     → v.turn ≡ Some (bucket_of n) → IsHeld v.held t → root_of t ≡ Some n
-    → known_at (book_of n) v.words ≡ Some 1 → number_of_trees v.held ≤ 4089
+    → known_at (book_of n) v.words ≡ Some 1 → number_of_trees v.held ≤ most_before_freeing
     → MayWrite p seat v (book_of n) (λ _. 0) (Frees p seat n)
     (λ _ w. (u : Tree) → IsHeld v.held u → root_of u ≡ Some n → Freed v u n w)
 frees_any p seat v t n tells has held root known room =

@@ -38,6 +38,7 @@ use Rattle.table_rule.proofs.StateSteps.{ruled_step}
 use Rattle.table_rule.proofs.LogReading.{LogStays}
 use Rattle.table_rule.proofs.LogKept.{same_log}
 use Rattle.table_rule.specs.Changes.{holding, Raised, Lowered, Freed}
+use Rattle.table_rule.specs.ViewFacts.{most_before_freeing}
 use Rattle.table_rule.proofs.Freeing.{written, is_written, freed_unheld}
 use Rattle.table_rule.proofs.Unused.{unused_book, used_where_live}
 use Rattle.table_rule.proofs.Shares.{take_one, held_cons, held_append, row_list, row_list-weighs, row_held}
@@ -279,7 +280,7 @@ frees_one f v w t n key root names weighs =
 -- a share goes, and the entry with it
 pub frees_share : (p : Layout) (seat : ℕ) (v : SeatView) (t : Tree) (n : Name)
     → v.turn ≡ Some (bucket_of n) → IsHeld v.held t → root_of t ≡ Some n
-    → known_at (book_of n) v.words ≡ Some 1 → number_of_trees v.held ≤ 4089
+    → known_at (book_of n) v.words ≡ Some 1 → number_of_trees v.held ≤ most_before_freeing
     → MayWrite p seat v (book_of n) (λ _. 0) (Frees p seat n) (λ _ w. Freed v t n w)
 frees_share p seat v t n has held root known room models old views r at =
     let c : State = table_state p old views in

@@ -19,7 +19,7 @@ use Rattle.table_rule.specs.Reading.{Wrote, book_of}
 use Rattle.table_rule.specs.Views.{SeatView, BucketAt, bucket_of, key_word_id, known_at, starting, spent}
 use Rattle.table_rule.specs.TurnRules.{IsOf, turn_of, used_of}
 use Rattle.table_rule.specs.Rules.{KeepsRule, IsRuled, table_state, MayWrite, MayStore}
-use Rattle.table_rule.specs.ViewFacts.{ViewFacts, tree_word}
+use Rattle.table_rule.specs.ViewFacts.{ViewFacts, tree_word, most_before_freeing}
 use Rattle.table_rule.specs.Changes.{under_turn, knowing, Counted, BookFound, meeting, children_of_key, wanted, IsFullIn, IsReady, Published, Raised, Lowered, Freed}
 use Rattle.table_rule.specs.Seating.{seat_numbered, handing, handed, joined}
 
@@ -111,7 +111,7 @@ SharesAreLowered = (p : Layout) (seat : ℕ) (v : SeatView) (t : Tree) (n : Name
 abbrev pub EntriesAreFreed : Type 0
 EntriesAreFreed = (p : Layout) (seat : ℕ) (v : SeatView) (t : Tree) (n : Name) → ViewFacts v
     → v.turn ≡ Some (bucket_of n) → IsHeld v.held t → root_of t ≡ Some n
-    → known_at (book_of n) v.words ≡ Some 1 → number_of_trees v.held ≤ 4089
+    → known_at (book_of n) v.words ≡ Some 1 → number_of_trees v.held ≤ most_before_freeing
     → MayWrite p seat v (book_of n) (λ _. 0) (Frees p seat n)
     (λ k w. ForHeld v.held n (λ u. Freed v u n w))
 

@@ -7,6 +7,7 @@ pub mod Tries
 pub mod Forgets
 pub mod Sames
 pub mod Targets
+pub mod InTurn
 pub mod Reading
 pub mod Lending
 pub mod Keeping

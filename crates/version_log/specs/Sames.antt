@@ -1,8 +1,8 @@
 -- Whether two versions are the same, and why nothing is told.
-use Rattle.std.specs.Prelude.{◌≡◌, ◌↔◌, ◌⊎◌, ◌^◌, ◌<◌, ◌≤◌, ℕ, IsTrue}
+use Rattle.std.specs.Prelude.{◌≡◌, ◌≢◌, ◌↔◌, ◌⊎◌, ◌^◌, ◌<◌, ◌≤◌, ℕ, IsTrue}
 use Rattle.std.specs.List.{Contains}
 use Rattle.core_laws.specs.contents.Versions.{IsUnmarked, SameWorld}
-use Rattle.table_rule.specs.LogFacts.{number_seen, seen_has}
+use Rattle.table_rule.specs.LogFacts.{IsShownUnmarked, number_seen, seen_has}
 use Rattle.table_rule.specs.Views.{SeatView}
 use Rattle.retain.specs.declared.comparing.SameAt.{SameAt}
 use Rattle.retain.specs.declared.comparing.SameRefused.{SameRefused}
@@ -14,6 +14,17 @@ pub record IsFoundOpen (x : SeatView) (version at : ℕ) : Type 0 where
   pub there : version ≤ at
   pub unmarked : IsUnmarked x.log.seen.marks version
   pub found : Contains x.log.found (record { version = version; at = at })
+
+-- and the turn has shown it so
+pub record IsShownOpen (x : SeatView) (version at : ℕ) : Type 0 where
+  pub shown : IsShownUnmarked x version
+  pub found : IsFoundOpen x version at
+
+-- a look at this version leaves the length, and what was shown and found of other ones
+pub record StaysFound (x z : SeatView) (version at : ℕ) : Type 0 where
+  pub number : number_seen z ≡ at
+  pub still : (u : ℕ) → IsShownUnmarked x u → IsShownUnmarked z u
+  pub others : (u : ℕ) → u ≢ version → IsFoundOpen x u at → IsFoundOpen z u at
 
 -- both versions are there without a mark, and the answer is whether their cells agree
 pub record AnswersSame (v w : ℕ) (s : SameAt) (x : SeatView) : Type 0 where

@@ -51,6 +51,11 @@ pub record OnlyReadsLog (v w : SeatView) : Type 0 where
   pub made : w.made ≡ v.made
   pub met : w.met ≡ v.met
 
+-- and the same is held
+pub record ReadsHolding (v w : SeatView) : Type 0 where
+  pub looks : OnlyReadsLog v w
+  pub held : w.held ≡ v.held
+
 -- the log that is seen has this mark on the version
 pub record HasSeenMark (v : SeatView) (version : ℕ) (mark : Mark) : Type 0 where
   pub is : mark.version ≡ version

@@ -10,6 +10,7 @@ use Rattle.node_words.specs.declared.shapes.names.Name.{Name}
 use Rattle.node_table.specs.Making.{Makes}
 use Rattle.table_rule.specs.Views.{SeatView}
 use Rattle.undo.specs.declared.cursor.UndoCursor.{UndoCursor}
+use Rattle.undo.specs.Standings.{version_of}
 use Rattle.undo.specs.Targets.{past_top, future_top}
 use Rattle.version_log.specs.declared.lookahead.Lookahead.{Lookahead}
 use Rattle.version_log.specs.Roots.{HoldsRootOf}
@@ -35,6 +36,11 @@ pub record NextCursor (records : List Record) (act : Act) (now last : ℕ) : Typ
 pub record IsNextCursor (records : List Record) (act : Act) (s : UndoCursor) : Type 0 where
   pub next : NextCursor records act s.now s.last
   pub small : (s.now ≤ 65535) × (s.last ≤ 65535)
+
+-- where an undo or a redo goes, and where the history then stands, as it was looked up
+pub record FindsTarget (records : List Record) (act : Act) (found : Option UndoCursor) : Type 0 where
+  pub target : version_of found ≡ act_target records act
+  pub behind : IfSome found (IsNextCursor records act)
 
 abbrev pub no_lookahead : Lookahead
 no_lookahead = record { undo = None; redo = None }

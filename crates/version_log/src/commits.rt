@@ -4,6 +4,7 @@ ghost use Rattle.node_words.specs.shapes.Weights.{number_of_trees};
 ghost use Rattle.node_table.specs.LogTurns.{HasLogTurn};
 ghost use Rattle.version_log.specs.Coming.{CommitCame, MayCommit, MayCommitHere};
 ghost use Rattle.version_log.specs.Falling.{CommitsAlone};
+ghost use Rattle.version_log.specs.InTurn.{GivesTurnBack};
 ghost use Rattle.version_log.specs.Seeing.{StandsFree};
 
 use crate::answers::{CommitRefused, Committed, Pinned};
@@ -30,10 +31,9 @@ pub(crate) fn commit_here(
     requires turn { HasLogTurn table.now pass.old }
     requires room { number_of_trees pass.old.view.held ≤ 4095 }
     requires may { MayCommitHere table.now pass.old.view base.now act.now root }
-    ensures free { StandsFree table.now pass.new }
+    ensures back { GivesTurnBack table.now pass.old.view pass.new }
     ensures came { CommitCame base.now keep line act.now root result pass.old.view
         pass.new.view }
-    ensures met_nobody { pass.new.view.log.busy ≡ pass.old.view.log.busy }
 {
     let at = log_length(table, pass);
     if at == MOST_RECORDS {

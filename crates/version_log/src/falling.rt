@@ -6,7 +6,7 @@ ghost use Rattle.node_table.specs.LogTurns.{HasLogTurn, log_left};
 ghost use Rattle.retain.specs.Retained.{falls_out};
 ghost use Rattle.version_log.specs.Coming.{MayFinish};
 ghost use Rattle.version_log.specs.Falling.{CommitsNext, FallsOut};
-ghost use Rattle.version_log.specs.Seeing.{StandsFree};
+ghost use Rattle.version_log.specs.InTurn.{GivesTurnBack, MayAppendAt};
 
 use crate::answers::Committed;
 use crate::finishing::append_next;
@@ -31,10 +31,9 @@ fn forget_fallen(table: &NodeTable, pass: &mut Pass, v: u32, line: u32) -> Optio
     requires turn { HasLogTurn table.now pass.old }
     requires earlier { v < number_seen pass.old.view }
     requires room { number_of_trees pass.old.view.held ≤ 4095 }
-    ensures free { StandsFree table.now pass.new }
+    ensures back { GivesTurnBack table.now pass.old.view pass.new }
     ensures falls { FallsOut (Some v) line (number_seen pass.old.view) result
         (log_left pass.old.view) pass.new.view }
-    ensures met_nobody { pass.new.view.log.busy ≡ pass.old.view.log.busy }
 {
     let number = pass.number();
     if let Some(_mark) = log_mark(table, pass, v) {
@@ -58,14 +57,11 @@ pub(crate) fn append_kept(
     root: Option<Share>,
     keep: u32,
 ) -> Committed
-    requires turn { HasLogTurn table.now pass.old }
-    requires at { at ≡ number_seen pass.old.view }
-    requires room { at < 65535 }
+    requires begins { MayAppendAt table.now pass.old at }
     requires held { number_of_trees pass.old.view.held ≤ 4095 }
     requires may { MayFinish table.now pass.old.view ahead act.now root }
-    ensures free { StandsFree table.now pass.new }
+    ensures back { GivesTurnBack table.now pass.old.view pass.new }
     ensures commits { CommitsNext pass.old.view keep line act.now root result pass.new.view }
-    ensures met_nobody { pass.new.view.log.busy ≡ pass.old.view.log.busy }
 {
     let n = append_next(table, pass, ahead, at, line, act, root);
     match falls_out(n, keep) {

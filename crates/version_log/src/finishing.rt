@@ -1,13 +1,12 @@
 // Records that are appended under the log's turn, whatever their act.
-ghost use Rattle.std.specs.Prelude.{◌≡◌, ◌<◌, ◌≤◌, false, IfOk, IfSome};
+ghost use Rattle.std.specs.Prelude.{◌≡◌, ◌≤◌, false, IfOk, IfSome};
 ghost use Rattle.history_model.specs.Worlds.{is_edit};
 ghost use Rattle.node_words.specs.shapes.Weights.{number_of_trees};
-ghost use Rattle.table_rule.specs.LogFacts.{number_seen};
 ghost use Rattle.table_rule.specs.LogChanges.{HasOpenTarget};
-ghost use Rattle.node_table.specs.LogTurns.{HasLogTurn, LearnsLog, log_left};
+ghost use Rattle.node_table.specs.LogTurns.{HasLogTurn};
 ghost use Rattle.version_log.specs.Coming.{FinishCame, MayFinish};
-ghost use Rattle.version_log.specs.Commits.{AppendsNext};
 ghost use Rattle.version_log.specs.Falling.{CommitsAlone};
+ghost use Rattle.version_log.specs.InTurn.{AppendsInTurn, FindsCursor, MayAppendAt};
 ghost use Rattle.version_log.specs.Seeing.{StandsFree};
 ghost use Rattle.version_log.specs.Targets.{KnowsNext, IsNextCursor};
 
@@ -33,9 +32,7 @@ fn cursor_behind(
     requires other { is_edit act.now ≡ false }
     requires target { HasOpenTarget pass.old.view act.now }
     requires known { IfSome kept (IsNextCursor pass.old.view.log.seen.records act.now) }
-    ensures turn { HasLogTurn table.now pass.new }
-    ensures learns { LearnsLog pass.old.view pass.new.view }
-    ensures stands { IsNextCursor pass.old.view.log.seen.records act.now result }
+    ensures finds { FindsCursor table.now pass.old.view act.now result pass.new }
 {
     if let Some(standing) = kept {
         return standing;
@@ -54,14 +51,10 @@ fn cursor_ahead(
     act: &Act,
     at: u32,
 ) -> UndoCursor
-    requires turn { HasLogTurn table.now pass.old }
-    requires at { at ≡ number_seen pass.old.view }
-    requires room { at < 65535 }
+    requires begins { MayAppendAt table.now pass.old at }
     requires target { HasOpenTarget pass.old.view act.now }
     requires known { KnowsNext pass.old.view.log.seen.records act.now ahead }
-    ensures turn { HasLogTurn table.now pass.new }
-    ensures learns { LearnsLog pass.old.view pass.new.view }
-    ensures stands { IsNextCursor pass.old.view.log.seen.records act.now result }
+    ensures finds { FindsCursor table.now pass.old.view act.now result pass.new }
 {
     match act {
         Act::Undo | Act::Redo => cursor_behind(table, pass, ahead.lookahead_for(act), act),
@@ -82,16 +75,10 @@ pub(crate) fn append_next(
     act: &Act,
     root: Option<Share>,
 ) -> u32
-    requires turn { HasLogTurn table.now pass.old }
-    requires at { at ≡ number_seen pass.old.view }
-    requires room { at < 65535 }
+    requires begins { MayAppendAt table.now pass.old at }
     requires may { MayFinish table.now pass.old.view ahead act.now root }
-    ensures turn { HasLogTurn table.now pass.new }
-    ensures appends { AppendsNext pass.old.view line act.now root result
-        (log_left pass.new.view) }
-    ensures number { result ≡ number_seen pass.new.view }
-    ensures fewer { number_of_trees pass.new.view.held ≤ number_of_trees pass.old.view.held }
-    ensures met_nobody { pass.new.view.log.busy ≡ pass.old.view.log.busy }
+    ensures appends { AppendsInTurn table.now pass.old.view line act.now root result
+        pass.new }
 {
     pass.tell();
     tell_numbers(act);

@@ -3,8 +3,9 @@ ghost use Rattle.std.specs.Prelude.{◌≡◌, ◌≤◌, IfSome};
 ghost use Rattle.table_rule.specs.LogFacts.{number_seen};
 ghost use Rattle.node_table.specs.LogTurns.{HasLogTurn, LearnsLog};
 ghost use Rattle.undo.specs.Standings.{version_of};
+ghost use Rattle.version_log.specs.InTurn.{LearnsInTurn};
 ghost use Rattle.version_log.specs.Reading.{ReadsOn};
-ghost use Rattle.version_log.specs.Targets.{KnowsNext, IsNextCursor, act_target};
+ghost use Rattle.version_log.specs.Targets.{FindsTarget, KnowsNext, act_target};
 ghost use Rattle.version_log.specs.Targets.{with_lookahead, lookahead_for, no_lookahead};
 
 use history_model::Act;
@@ -101,10 +102,7 @@ impl<'a> UnderTurn<'a> {
         requires { HasLogTurn self.old.table.now self.old.pass.now }
         ensures turn { HasLogTurn self.new.table.now self.new.pass.now }
         ensures reads { ReadsOn self.old self.new }
-        ensures target { version_of result
-            ≡ act_target self.old.pass.now.view.log.seen.records act.now }
-        ensures behind { IfSome result
-            (IsNextCursor self.old.pass.now.view.log.seen.records act.now) }
+        ensures finds { FindsTarget self.old.pass.now.view.log.seen.records act.now result }
     {
         self.pass.tell();
         match act {
@@ -118,10 +116,8 @@ impl<'a> UnderTurn<'a> {
 // The same by a pass that has the log's turn.
 pub(crate) fn look_behind(table: &NodeTable, pass: &mut Pass, act: &Act) -> Option<UndoCursor>
     requires { HasLogTurn table.now pass.old }
-    ensures turn { HasLogTurn table.now pass.new }
-    ensures target { version_of result ≡ act_target pass.old.view.log.seen.records act.now }
-    ensures behind { IfSome result (IsNextCursor pass.old.view.log.seen.records act.now) }
-    ensures learns { LearnsLog pass.old.view pass.new.view }
+    ensures learns { LearnsInTurn table.now pass.old.view pass.new }
+    ensures finds { FindsTarget pass.old.view.log.seen.records act.now result }
 {
     let mut log = UnderTurn { table, pass };
     let behind = log.behind(act);

@@ -2,8 +2,8 @@
 ghost use Rattle.std.specs.Prelude.{◌≡◌, ◌≤◌, ◌+◌, Some, None, true};
 ghost use Rattle.node_words.specs.shapes.Weights.{number_of_trees};
 ghost use Rattle.table_rule.specs.LogFacts.{IsShownRoot, IsShownUnmarked, seen_has};
-ghost use Rattle.node_table.specs.Acts.{OnlySharesChange};
 ghost use Rattle.node_table.specs.LogTurns.{HasLogTurn};
+ghost use Rattle.version_log.specs.InTurn.{TakesRoot};
 ghost use Rattle.version_log.specs.Keeping.{OnlyKeeps};
 ghost use Rattle.version_log.specs.Roots.{GetsRoot, HoldsRootOf, turns_for};
 
@@ -25,10 +25,9 @@ fn keep_name<R: Wait, L: Ledger>(
     requires shown { IsShownRoot pass.old.view v (Some name) }
     requires room { number_of_trees pass.old.view.held ≤ 4095 }
     ensures turn { HasLogTurn table.now pass.new }
-    ensures only { OnlySharesChange pass.old.view pass.new.view }
     ensures name { result ≡ name }
-    ensures root { HoldsRootOf pass.new.view (Some name) (seen_has pass.old.view v) }
-    ensures gains { GetsRoot pass.old.view.held (Some name) pass.new.view.held }
+    ensures takes { TakesRoot pass.old.view (Some name) (seen_has pass.old.view v)
+        pass.new.view }
     ensures steps { steps.new ≡ steps.old + 1 }
 {
     pass.tell();
@@ -51,10 +50,8 @@ fn keep_root<R: Wait, L: Ledger>(
     requires shown { IsShownRoot pass.old.view v root }
     requires room { number_of_trees pass.old.view.held ≤ 4095 }
     ensures turn { HasLogTurn table.now pass.new }
-    ensures only { OnlySharesChange pass.old.view pass.new.view }
     ensures name { result ≡ root }
-    ensures root { HoldsRootOf pass.new.view root (seen_has pass.old.view v) }
-    ensures gains { GetsRoot pass.old.view.held root pass.new.view.held }
+    ensures takes { TakesRoot pass.old.view root (seen_has pass.old.view v) pass.new.view }
     ensures steps { steps.new ≡ steps.old + turns_for root }
 {
     match root {

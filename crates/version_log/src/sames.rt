@@ -1,10 +1,12 @@
 // Versions that are compared, and the head of the log.
-ghost use Rattle.std.specs.Prelude.{◌≡◌, ◌≢◌, ◌↔◌, ◌^◌, ℕ, IsTrue, IfOk, IfErr};
+ghost use Rattle.std.specs.Prelude.{◌≡◌, ◌≢◌, ◌↔◌, ◌^◌, IsTrue, IfOk, IfErr};
 ghost use Rattle.core_laws.specs.contents.Versions.{SameWorld};
 ghost use Rattle.table_rule.specs.LogFacts.{IsShownUnmarked, number_seen, seen_has};
-ghost use Rattle.node_table.specs.LogTurns.{HasLogTurn, LearnsLog};
-ghost use Rattle.version_log.specs.Sames.{IsFoundOpen, RefusesVersion, RefusesSame, AnswersSame};
-ghost use Rattle.version_log.specs.Seeing.{StandsFree, OnlyReadsLog};
+ghost use Rattle.node_table.specs.LogTurns.{HasLogTurn};
+ghost use Rattle.version_log.specs.InTurn.{HasTurnAt, LearnsInTurn};
+ghost use Rattle.version_log.specs.Sames.{AnswersSame, RefusesSame, RefusesVersion};
+ghost use Rattle.version_log.specs.Sames.{IsShownOpen, StaysFound};
+ghost use Rattle.version_log.specs.Seeing.{OnlyReadsLog, ReadsHolding, StandsFree};
 
 use node_table::{NodeTable, Pass, leave_log, log_length, log_mark, log_root, take_log};
 use node_words::Name;
@@ -13,18 +15,11 @@ use std::sync::Wait;
 
 // Looks whether the version is there without a mark.
 fn look_at(table: &NodeTable, pass: &mut Pass, at: u32, v: u32) -> Result<(), SameRefused>
-    requires turn { HasLogTurn table.now pass.old }
-    requires at { at ≡ number_seen pass.old.view }
+    requires begins { HasTurnAt table.now pass.old at }
     ensures turn { HasLogTurn table.now pass.new }
-    ensures looks { OnlyReadsLog pass.old.view pass.new.view }
-    ensures held { pass.new.view.held ≡ pass.old.view.held }
-    ensures number { number_seen pass.new.view ≡ at }
-    ensures still { (u : ℕ) → IsShownUnmarked pass.old.view u
-        → IsShownUnmarked pass.new.view u }
-    ensures others { (u : ℕ) → u ≢ v → IsFoundOpen pass.old.view u at
-        → IsFoundOpen pass.new.view u at }
-    ensures shown { IfOk result (λ u. IsShownUnmarked pass.new.view v) }
-    ensures found { IfOk result (λ u. IsFoundOpen pass.new.view v at) }
+    ensures reads { ReadsHolding pass.old.view pass.new.view }
+    ensures stays { StaysFound pass.old.view pass.new.view v at }
+    ensures open { IfOk result (λ u. IsShownOpen pass.new.view v at) }
     ensures refused { IfErr result (λ e. RefusesVersion v e pass.new.view) }
 {
     if v > at {
@@ -41,8 +36,7 @@ fn is_same_root(table: &NodeTable, pass: &mut Pass, v: u32, w: u32) -> bool
     requires turn { HasLogTurn table.now pass.old }
     requires first { IsShownUnmarked pass.old.view v }
     requires second { IsShownUnmarked pass.old.view w }
-    ensures turn { HasLogTurn table.now pass.new }
-    ensures learns { LearnsLog pass.old.view pass.new.view }
+    ensures learns { LearnsInTurn table.now pass.old.view pass.new }
     ensures equal { IsTrue result ↔ SameWorld (2 ^ pass.old.view.plan.side)
         (seen_has pass.old.view v) (seen_has pass.old.view w) }
 {
@@ -71,11 +65,9 @@ fn compare(
     v: u32,
     w: u32,
 ) -> Result<SameAt, SameRefused>
-    requires turn { HasLogTurn table.now pass.old }
-    requires at { at ≡ number_seen pass.old.view }
+    requires begins { HasTurnAt table.now pass.old at }
     ensures turn { HasLogTurn table.now pass.new }
-    ensures looks { OnlyReadsLog pass.old.view pass.new.view }
-    ensures held { pass.new.view.held ≡ pass.old.view.held }
+    ensures reads { ReadsHolding pass.old.view pass.new.view }
     ensures same { IfOk result (λ s. AnswersSame v w s pass.new.view) }
     ensures refused { IfErr result (λ e. RefusesSame v w e pass.new.view) }
 {
@@ -96,14 +88,11 @@ fn compare_with(
     v: u32,
     w: u32,
 ) -> Result<SameAt, SameRefused>
-    requires turn { HasLogTurn table.now pass.old }
-    requires at { at ≡ number_seen pass.old.view }
-    requires shown { IsShownUnmarked pass.old.view v }
-    requires found { IsFoundOpen pass.old.view v at }
+    requires begins { HasTurnAt table.now pass.old at }
+    requires open { IsShownOpen pass.old.view v at }
     requires other { v ≢ w }
     ensures turn { HasLogTurn table.now pass.new }
-    ensures looks { OnlyReadsLog pass.old.view pass.new.view }
-    ensures held { pass.new.view.held ≡ pass.old.view.held }
+    ensures reads { ReadsHolding pass.old.view pass.new.view }
     ensures same { IfOk result (λ s. AnswersSame v w s pass.new.view) }
     ensures refused { IfErr result (λ e. RefusesSame v w e pass.new.view) }
 {

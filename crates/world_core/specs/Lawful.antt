@@ -54,7 +54,7 @@ pub record MayRaise (state : State) (session : ℕ) (n : Name) : Type 0 where
   pub reached : Reaches state session n
   pub room : HoldsAtMost state session 4095
 
--- the children's shares find room
+-- the children's shares find room: of at most 4,096, one goes and eight come
 pub record MayLower (state : State) (session : ℕ) (n : Name) : Type 0 where
   pub held : HoldsShares state session (Some n ∷ [])
   pub room : HoldsAtMost state session 4089

@@ -4,6 +4,7 @@ use Rattle.node_words.specs.shapes.Tree.{Tree, child_of}
 use Rattle.node_words.specs.shapes.Weights.{number_of_trees}
 use Rattle.node_words.specs.Held.{AreBelow, AreHeld, HoldsChildren, HoldsName, name_in}
 use Rattle.node_words.proofs.GatherLaws.{may_next}
+use Rattle.table_rule.specs.ViewFacts.{most_before_freeing}
 use Rattle.node_table.specs.Views.{SeatView}
 use Rattle.node_table.proofs.OnlyShares.{only_on}
 use Rattle.node_table.proofs.Taking.{one_emptied}
@@ -28,8 +29,8 @@ release-release_row-requires g t c κs within =
       row = λ k. child_of h.tree k;
       are_held = children_held v m h.tree children h.is_held e.0 e.1;
     } in
-    let room : number_of_trees m.held + 8 * (c.name-level.result.level - 1) ≤ 4089 =
-    subst (λ (l : ℕ). number_of_trees m.held + 8 * (l - 1) ≤ 4089) (sym level)
+    let room : number_of_trees m.held + 8 * (c.name-level.result.level - 1) ≤ most_before_freeing =
+    subst (λ (l : ℕ). number_of_trees m.held + 8 * (l - 1) ≤ most_before_freeing) (sym level)
     (children_room v m h.tree n tells h.is_held h.root e.0 c.requires.room) in
     search (rules, arith, of, idle, level, below, holds, room)
 

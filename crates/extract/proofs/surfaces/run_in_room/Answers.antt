@@ -1,22 +1,29 @@
-use Rattle.std.proofs.Common.{◌+◌}
-use Rattle.vw_cell.specs.Counts.{cell_at}
-use Rattle.extract.specs.Surface.{voxel_of_sides}
-use Rattle.extract.specs.BareLayers.{leaf_sides}
-use Rattle.extract.proofs.ListingLaws.{none_joined, appends_one, room_one}
+use Rattle.std.proofs.Common.{length, sym, subst}
+use Rattle.std.specs.Prelude.{slice_index}
+use Rattle.extract.specs.Layers.{HasRoom, AppendsVoxels}
+use Rattle.extract.specs.BareLayers.{IsAny, run_of_sides}
+use Rattle.extract.specs.declared.bare_layers.BareLeaf.{BareLeaf}
+use Rattle.extract.proofs.SurfaceLaws.{blank_appends, no_row}
 use Rattle.extract.proofs.surfaces.run_in_room.Goals as goal
 
-pub loop-p-init : goal.loop-p-init
-loop-p-init c = none_joined _ c.args.into.now
+pub returns-then-is_row_blank : goal.returns-then-is_row_blank
+returns-then-is_row_blank c =
+    blank_appends c.args.into.now _
+    (no_row _ _ c.args.n c.args.at c.args.to c.requires.any c.requires.row.x
+    (c.is_row_blank.ensures c.if-is_row_blank.true))
 
-pub cell_in_room-requires-clause-room : goal.cell_in_room-requires-clause-room
-cell_in_room-requires-clause-room c =
-    room_one c.loop-p.p c.args.n
-    (λ p. voxel_of_sides (leaf_sides c.args.leaf (cell_at (c.args.at.x + p) c.args.at.y c.args.at.z))
-    (c.args.to.x + p) c.args.to.y c.args.to.z) c.args.into.now c.loop-p.into c.loop-p-test.true c.requires.room c.loop-p.invariant
+pub cells_in_room-requires-clause-any : goal.cells_in_room-requires-clause-any
+cells_in_room-requires-clause-any c =
+    subst (λ (leaf : BareLeaf). IsAny leaf (slice_index c.args.slab.now.anys c.args.m))
+    (sym c.leaf_of.ensures) c.requires.any
 
-pub loop-p-preserved : goal.loop-p-preserved
-loop-p-preserved c =
-    appends_one c.loop-p.p
-    (λ p. voxel_of_sides (leaf_sides c.args.leaf (cell_at (c.args.at.x + p) c.args.at.y c.args.at.z))
-    (c.args.to.x + p) c.args.to.y c.args.to.z) c.args.into.now c.loop-p.into c.cell_in_room.new.into c.loop-p.invariant
-    c.cell_in_room.ensures
+pub cells_in_room-requires-clause-room : goal.cells_in_room-requires-clause-room
+cells_in_room-requires-clause-room c =
+    subst (λ (leaf : BareLeaf). HasRoom c.args.into.now
+    (length (run_of_sides leaf c.args.at c.args.n c.args.to))) (sym c.leaf_of.ensures)
+    c.requires.room
+
+pub returns : goal.returns
+returns c =
+    subst (λ (leaf : BareLeaf). AppendsVoxels (run_of_sides leaf c.args.at c.args.n c.args.to)
+    c.args.into.now c.cells_in_room.new.into) c.leaf_of.ensures c.cells_in_room.ensures

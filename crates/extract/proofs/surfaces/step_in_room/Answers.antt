@@ -1,10 +1,7 @@
-use Rattle.std.proofs.Common.{◌+◌, ◌-◌, ◌%◌, List, length, arith, refl, sym, ap, subst, ◌∙◌}
-use Rattle.vw_cell.specs.Counts.{cell_at}
+use Rattle.std.proofs.Common.{◌+◌, ◌-◌, List, length, arith, refl, sym, subst}
 use Rattle.vox_read.specs.declared.voxels.Voxel.{Voxel}
 use Rattle.extract.specs.Layers.{HasRoom, AppendsVoxels}
 use Rattle.extract.specs.Surface.{bare_sides_of}
-use Rattle.extract.specs.BareLayers.{run_of_sides}
-use Rattle.extract.specs.declared.bare_layers.BareLeaf.{BareLeaf}
 use Rattle.extract.proofs.LeafLaws.{run_inside, run_index}
 use Rattle.extract.proofs.SurfaceLaws.{blank_part, blank_appends, run_is_surface, room_part}
 use Rattle.extract.proofs.surfaces.step_in_room.Goals as goal
@@ -28,11 +25,7 @@ run_in_room-requires-clause-room c =
     (run_index _ _ _ _ c.requires.row c.from.ensures)
     (run_inside b c.args.y c.args.p c.args.row _ c.requires.b c.requires.y c.requires.p c.requires.inside (run_index _ _ _ _ refl c.from.ensures)) c.run_length-n.ensures.some held.bare
     in
-    let told =
-    ap (λ (leaf : BareLeaf). run_of_sides leaf
-    (cell_at ((b.at.x + c.args.p) % 4) ((b.at.y + c.args.y) % 4) ((b.at.z + c.args.z) % 4))
-    c.run_length-n.result (cell_at c.args.p c.args.y c.args.z)) c.leaf_of-leaf.ensures ∙ run in
-    subst (λ (xs : List Voxel). HasRoom c.args.into.now (length xs)) (sym told)
+    subst (λ (xs : List Voxel). HasRoom c.args.into.now (length xs)) (sym run)
     (room_part (bare_sides_of side cells) b c.args.z c.args.y c.args.p c.run_length-n.result (b.size.x - c.args.p) c.args.into.now c.run_length-n.ensures.within c.requires.room.3)
 
 pub returns-clause-appended : goal.returns-clause-appended
@@ -44,8 +37,12 @@ returns-clause-appended c side cells held =
     (run_index _ _ _ _ c.requires.row c.from.ensures)
     (run_inside b c.args.y c.args.p c.args.row _ c.requires.b c.requires.y c.requires.p c.requires.inside (run_index _ _ _ _ refl c.from.ensures)) c.run_length-n.ensures.some held.bare
     in
-    let told =
-    ap (λ (leaf : BareLeaf). run_of_sides leaf
-    (cell_at ((b.at.x + c.args.p) % 4) ((b.at.y + c.args.y) % 4) ((b.at.z + c.args.z) % 4))
-    c.run_length-n.result (cell_at c.args.p c.args.y c.args.z)) c.leaf_of-leaf.ensures ∙ run in
-    subst (λ (xs : List Voxel). AppendsVoxels xs c.args.into.now c.run_in_room.new.into) told c.run_in_room.ensures
+    subst (λ (xs : List Voxel). AppendsVoxels xs c.args.into.now c.run_in_room.new.into) run
+    c.run_in_room.ensures
+
+pub run_in_room-requires-clause-any : goal.run_in_room-requires-clause-any
+run_in_room-requires-clause-any c =
+    let held = c.requires.room.2 in
+    held.any.each (c.args.row + c.from.result)
+    (run_inside c.args.b c.args.y c.args.p c.args.row _ c.requires.b c.requires.y c.requires.p
+    c.requires.inside (run_index _ _ _ _ refl c.from.ensures))

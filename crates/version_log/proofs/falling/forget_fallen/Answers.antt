@@ -19,28 +19,22 @@ returns-clause-falls c =
     c.log_forget-root.result c.requires.earlier c.number-number.ensures b
     (c.log_forget-root.ensures.forgot c.number-number.result number)
 
-pub returns-clause-free : goal.returns-clause-free
-returns-clause-free c =
+pub returns-clause-back : goal.returns-clause-back
+returns-clause-back c =
     let v : SeatView = c.args.pass.now.view in
     let m : SeatView = c.log_mark.new.pass.view in
     let b = c.in_default.ensures.looks in
     let number : m.numbers ≡ c.number-number.result ∷ [] =
     ap (λ (x : SeatView). x.numbers) b.is ∙ c.number-number.ensures in
+    let f = c.log_forget-root.ensures.forgot c.number-number.result number in
     record {
-      of = c.log_forget-root.ensures.of;
-      idle = fell_idle v m c.log_forget-root.new.pass.view c.args.v c.args.line
+      free = record {
+        of = c.log_forget-root.ensures.of;
+        idle = fell_idle v m c.log_forget-root.new.pass.view c.args.v c.args.line
+            c.number-number.result c.log_forget-root.result c.requires.earlier
+            c.number-number.ensures b f c.requires.turn.idle;
+      };
+      met_nobody = fell_busy v m c.log_forget-root.new.pass.view c.args.v c.args.line
           c.number-number.result c.log_forget-root.result c.requires.earlier
-          c.number-number.ensures b
-          (c.log_forget-root.ensures.forgot c.number-number.result number) c.requires.turn.idle;
+          c.number-number.ensures b f;
     }
-
-pub returns-clause-met_nobody : goal.returns-clause-met_nobody
-returns-clause-met_nobody c =
-    let v : SeatView = c.args.pass.now.view in
-    let m : SeatView = c.log_mark.new.pass.view in
-    let b = c.in_default.ensures.looks in
-    let number : m.numbers ≡ c.number-number.result ∷ [] =
-    ap (λ (x : SeatView). x.numbers) b.is ∙ c.number-number.ensures in
-    fell_busy v m c.log_forget-root.new.pass.view c.args.v c.args.line c.number-number.result
-    c.log_forget-root.result c.requires.earlier c.number-number.ensures b
-    (c.log_forget-root.ensures.forgot c.number-number.result number)

@@ -8,4 +8,4 @@ returns-clause-there c =
     let v = c.args.pass.now.view in
     subst (λ (o : Option ℕ). IfSome o (λ to. to ≤ number_seen v)) (sym c.version_of.ensures)
     (led_there v.log.seen.records c.args.act.now c.look_behind-behind.result
-    c.look_behind-behind.ensures.target)
+    c.look_behind-behind.ensures.finds.target)

@@ -15,5 +15,5 @@ returns-clause-looks g c =
     begun_looks v c.take_log.new.pass.view w c.take_log.ensures.takes
     (learns_same _ _ (ap (λ (s : PassState). s.view) c.log_length-at.ensures.same))
     in
-    looks_on v x z (looks_on v w x first c.compare-answer.ensures.looks)
+    looks_on v x z (looks_on v w x first c.compare-answer.ensures.reads.looks)
     (left_looks x z c.leave_log.ensures.view)

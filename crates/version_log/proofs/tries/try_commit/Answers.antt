@@ -26,7 +26,7 @@ returns-in-Ok-clause-came c =
     try_came c.args.table.now c.args.base.now c.args.keep c.args.line c.args.act.now c.args.root
     c.in-Ok.committed c.args.pass.now.view c.try_take_log.new.pass c.commit_here.new.pass.view
     (at_once _ _ _ c.try_take_log.result came c.try_take_log.ensures)
-    c.requires.may.pinned.moment c.in-Ok.ensures.came c.commit_here.ensures.met_nobody
+    c.requires.may.pinned.moment c.in-Ok.ensures.came c.commit_here.ensures.back.met_nobody
 
 pub returns-in-Ok-clause-alone : goal.returns-in-Ok-clause-alone
 returns-in-Ok-clause-alone c =
@@ -36,7 +36,7 @@ returns-in-Ok-clause-alone c =
     (try_came c.args.table.now c.args.base.now c.args.keep c.args.line c.args.act.now c.args.root
     c.in-Ok.committed c.args.pass.now.view c.try_take_log.new.pass c.commit_here.new.pass.view
     (at_once _ _ _ c.try_take_log.result came c.try_take_log.ensures)
-    c.requires.may.pinned.moment c.in-Ok.ensures.came c.commit_here.ensures.met_nobody).commits
+    c.requires.may.pinned.moment c.in-Ok.ensures.came c.commit_here.ensures.back.met_nobody).commits
 
 pub returns-in-Err-clause-came : goal.returns-in-Err-clause-came
 returns-in-Err-clause-came c =
@@ -44,4 +44,4 @@ returns-in-Err-clause-came c =
     rw c.tried.ensures (try_refuses c.args.table.now c.args.base.now c.args.root c.in-Err.refused
     c.args.pass.now.view c.try_take_log.new.pass c.commit_here.new.pass.view
     (at_once _ _ _ c.try_take_log.result came c.try_take_log.ensures)
-    c.commit_here.ensures.met_nobody c.in-Err.ensures.came)
+    c.commit_here.ensures.back.met_nobody c.in-Err.ensures.came)

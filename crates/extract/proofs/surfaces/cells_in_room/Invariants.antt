@@ -1,6 +1,6 @@
 use Rattle.extract.specs.BareLayers.{run_of_sides}
 use Rattle.extract.specs.Layers.{AppendsVoxels}
-use Rattle.extract.proofs.surfaces.run_in_room.Given as goal
+use Rattle.extract.proofs.surfaces.cells_in_room.Given as goal
 
 abbrev pub invariant-loop-p : goal.invariant-loop-p
 invariant-loop-p l =
