@@ -296,7 +296,10 @@ class Server:
         """The cells that look different, part after part; the last message says that it is."""
         parts = self.room.parts_between(first, version)
         for at in range(0, max(1, len(parts)), 8):
-            row = [self.room.cells_of(version, part) for part in parts[at:at + 8]]
+            row = []
+            for part in parts[at:at + 8]:
+                row.append(self.room.cells_of(version, part))
+                await asyncio.sleep(0)
             told = {"from": first, "version": version, "parts": row, "more": at + 8 < len(parts)}
             self._say(person, number, told)
             await person.rest()

@@ -290,6 +290,7 @@ async def pointed(server: Editor, page: Page, file: Path) -> None:
             await person.tell({"do": "point", "at": at})
         loop = asyncio.get_running_loop()
         await loop.run_in_executor(None, page.rests, lambda now: [one["at"] for one in now["people"]] == [None, *points])
+        page.driver.execute_script("document.activeElement.blur()")
         await loop.run_in_executor(None, page.picture, file)
         for person in people:
             await person.leave()

@@ -1,5 +1,5 @@
-"""What a page has by the parts that it is sent, beside what can be seen of the world as a whole: also where the library
-lists no cells of such a world, and compares no versions."""
+"""What a page has by the parts that it is sent, beside what can be seen of the slow world: by the slow world itself, by
+one that lists no cells and compares no versions, and by the library."""
 
 from __future__ import annotations
 
@@ -13,7 +13,8 @@ from typing import Any
 import voxdag
 from logs import About, FileLog
 from messages import EDITS, Edit, Refusal
-from room import Room
+from room import Room, perform
+from server import lacks_of_tints
 from voxdag import slow
 
 from trial.started import MODELS, told
@@ -33,7 +34,7 @@ class Shy(slow.World):
         raise voxdag.OtherKind()
 
 
-def edit_by_chance(rng: Random, models: list[Any]) -> Edit:
+def edit_by_chance(rng: Random, models: list[Any], tints: bool) -> Edit:
     """An edit that lies in the world."""
     name = rng.choice(EDITS)
     at = [rng.randrange(SIDE) for _ in range(3)]
@@ -49,13 +50,15 @@ def edit_by_chance(rng: Random, models: list[Any]) -> Edit:
         numbers = [model, *(rng.randrange(SIDE - n + 1) for n in models[model])]
     else:
         numbers = []
-    tint = [rng.randrange(1, 256)] if name in ("fill", "ball") else []
+    tint = [rng.randrange(1, 256)] if tints and name in ("fill", "ball") else []
     return Edit(name, (*numbers, *tint), None, None)
 
 
-def truth(world: slow.World, version: int) -> Seen:
-    """What can be seen of a version."""
-    data = slow.World.surface_bytes(world, version, (0, 0, 0, SIDE, SIDE, SIDE))
+def truth(beside: slow.World, room: Room, version: int) -> Seen:
+    """What can be seen of a version, in a slow world that follows the room's."""
+    for record in room.records[beside.newest:]:
+        perform(beside, record.act)
+    data = beside.surface_bytes(version, (0, 0, 0, SIDE, SIDE, SIDE))
     return {tuple(data[at:at + 3]): (data[at + 3], data[at + 4]) for at in range(0, len(data), 5)}
 
 
@@ -78,24 +81,24 @@ async def made(room: Room, edit: Edit) -> None:
     await done
 
 
-async def wrong_parts(work: Path, make: Any) -> list[str]:
+async def wrong_parts(log: Path, make: Any, tints: bool) -> list[str]:
     """Where the parts of rows of edits, or those between two versions, don't make what can be seen."""
-    rng, wrong, shown = Random(9), [], {}
-    room = Room(FileLog(work / f"{make.__name__}.cells"), make)
-    await room.open(About(SIDE, True, 0), MODELS.read_bytes())
+    rng, wrong, shown, models = Random(9), [], {}, MODELS.read_bytes()
+    room, beside = Room(FileLog(log), make), slow.World(SIDE, tints=tints, models=models)
+    await room.open(About(SIDE, tints, 0), models)
     try:
         for _ in range(ROWS):
             first = room.head
             for _ in range(rng.randrange(1, 4)):
-                await made(room, edit_by_chance(rng, room.models))
+                await made(room, edit_by_chance(rng, room.models, tints))
             shown = put(shown, room.changed(first, room.head))
-            if shown != truth(room.world, room.head):
+            if shown != truth(beside, room, room.head):
                 wrong.append(f"from {first} to {room.head}")
-                shown = truth(room.world, room.head)
+                shown = truth(beside, room, room.head)
         for _ in range(ROWS):
             a, b = [rng.choice([0, rng.randrange(room.head + 1)]) for _ in range(2)]
             parts = [room.cells_of(b, part) for part in room.parts_between(a, b)]
-            if put(truth(room.world, a), parts) != truth(room.world, b):
+            if put(truth(beside, room, a), parts) != truth(beside, room, b):
                 wrong.append(f"shown from {a} to {b}")
     finally:
         await room.close()
@@ -103,6 +106,11 @@ async def wrong_parts(work: Path, make: Any) -> list[str]:
 
 
 def cells(work: Path) -> None:
-    for make, kind in ((slow.World, "listed"), (Shy, "taken from saves")):
-        wrong = asyncio.run(wrong_parts(work, make))
-        told(f"a page has what can be seen after {ROWS} rows of edits, and from version to version; its cells are {kind}", not wrong, wrong)
+    kinds = [("the slow world", slow.World, True), ("one that lists no cells", Shy, True), ("one without tints", slow.World, False)]
+    try:
+        kinds.append(("the library", voxdag.World, not lacks_of_tints()))
+    except OSError:
+        print("passed over: what a page has by the library, since there is none", flush=True)
+    for n, (kind, make, tints) in enumerate(kinds):
+        wrong = asyncio.run(wrong_parts(work / f"cells-{n}.world", make, tints))
+        told(f"a page has what can be seen, after {ROWS} rows of edits and from version to version, by {kind}", not wrong, wrong)
