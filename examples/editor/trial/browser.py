@@ -49,6 +49,12 @@ return count;
 """
 # The colour of a button.
 COLOUR = "return getComputedStyle(arguments[0]).backgroundColor.match(/\\d+/g).map(Number)"
+# Takes the picture's memory away, as a browser does where the graphics processor failed, and gives it back.
+LOSE = """
+const canvas = document.getElementById("world"), memory = canvas.getContext("webgl2").getExtension("WEBGL_lose_context");
+canvas.addEventListener("webglcontextlost", () => setTimeout(() => memory.restoreContext(), 100), { once: true });
+memory.loseContext();
+"""
 # The picture as it is now was handed on to be shown.
 FRAMES = "const done = arguments[0]; requestAnimationFrame(() => requestAnimationFrame(() => requestAnimationFrame(done)));"
 
@@ -254,6 +260,14 @@ def tints(server: Editor, ann: Page, bo: Page) -> None:
     told("Alt and a click take the tint", before == 1 and ann.wait(lambda now: now["tint"] == TINT), [before, ann.told()["tint"]])
 
 
+def lost_picture(page: Page) -> None:
+    page.rests()
+    before = page.points()
+    page.driver.execute_script(LOSE)
+    came = page.points()
+    told("a picture that is lost is drawn again", came == 0 and until(lambda: page.points() > before * 0.9), [before, came, page.points()])
+
+
 def after_a_kill(server: Editor, ann: Page) -> None:
     """What is edited while the server is gone is made once it is back."""
     newest = ann.told()["newest"]
@@ -324,6 +338,7 @@ def in_browser(work: Path, options: list[str], pictures: Path) -> None:
         files(server, ann)
         tools(server, ann)
         tints(server, ann, bo)
+        lost_picture(ann)
         complaints = ann.faults() + bo.faults()
         told("no page complained", not complaints, complaints)
         after_a_kill(server, ann)
