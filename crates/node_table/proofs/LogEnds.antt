@@ -27,7 +27,7 @@ use Rattle.table_rule.proofs.LogReading.{length_records, mark_stands, marks_suc,
 use Rattle.table_rule.proofs.LogTellingLaw.{root_there}
 use Rattle.node_table.specs.Closing.{AreRoots}
 use Rattle.node_table.specs.Roots.{IsLogSmall, if_unmarked, roots_in}
-use Rattle.node_table.specs.declared.closed.Root.{Root}
+use Rattle.world_core.specs.declared.closed.Root.{Root}
 use Rattle.node_table.proofs.LogLists.{roots_suc, no_roots}
 
 -- kinds of 8 and more are those of tinted acts

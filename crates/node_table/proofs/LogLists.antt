@@ -10,7 +10,7 @@ use Rattle.core_laws.specs.contents.Aligned.{top}
 use Rattle.table_rule.specs.LogWords.{mark_of_words, if_marked, marks_in, record_of_words, records_in, word_in}
 use Rattle.table_rule.proofs.LogReading.{records_suc, marks_suc, length_records}
 use Rattle.node_table.specs.Roots.{IsLogSmall, if_unmarked, roots_in}
-use Rattle.node_table.specs.declared.closed.Root.{Root}
+use Rattle.world_core.specs.declared.closed.Root.{Root}
 
 -- one record more
 pub record_more : (mem : WordId → ℕ) (n m : ℕ) (items now : List Record) (r : Record)

@@ -16,8 +16,8 @@ use Rattle.core_laws.specs.Blocks.{IsIdle, live_number}
 use Rattle.table_rule.specs.Views.{SeatView}
 use Rattle.table_rule.specs.Knowing.{all_made}
 use Rattle.node_table.specs.TableStates.{TableState, PassState, BelongsTo}
-use Rattle.node_table.specs.declared.closed.Root.{Root}
-use Rattle.node_table.specs.declared.closed.Closed.{Closed}
+use Rattle.world_core.specs.declared.closed.Root.{Root}
+use Rattle.world_core.specs.declared.closed.Closed.{Closed}
 use Rattle.node_table.specs.declared.closed.TableCloseRefused.{TableCloseRefused}
 use Rattle.node_table.specs.declared.closed.TableCloseRefused.TheVariants.{Count, Memory}
 

@@ -9,13 +9,13 @@ ghost use Rattle.table_rule.specs.LogWords.{act_of_words, ball_of_words, box_of_
 ghost use Rattle.table_rule.specs.LogWords.{record_of_words, records_in, word_in};
 ghost use Rattle.node_table.specs.Roots.{IsLogSmall, roots_in};
 
-use crate::closed::Root;
 use atomic_table::Closed;
 use core_laws::{Places, child_in};
 use history_model::{Act, Mark, Record, TintAct};
 use node_words::{Name, Plan};
 use std::alloc::Global;
 use vw_cell::{Ball, Boxed, Cell};
+use world_core::Root;
 
 // The cell, the box and the ball of words.
 fn cell_in(word: u64) -> Cell

@@ -2,6 +2,5 @@ pub mod RootLaws
 pub mod NumberLaws
 pub mod OneReport
 pub mod RowLaws
+pub mod ListLaws
 pub mod LevelLines
-pub mod MarkLaws
-pub mod Singles

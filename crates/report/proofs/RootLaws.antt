@@ -1,5 +1,5 @@
 -- What a store's roots tell of its versions is what the report says of them.
-use Rattle.std.proofs.Common.{◌≡◌, ℕ, ◌+◌, ◌^◌, ◌<◌, ◌≤◌, length, ◌++◌, ◌∙◌, append_assoc, sym, ap, subst, arith, inl, inr, Option, Some, None, List, get_or}
+use Rattle.std.proofs.Common.{◌≡◌, ℕ, ◌+◌, ◌^◌, ◌<◌, ◌≤◌, length, ◌++◌, ◌∙◌, append_assoc, sym, ap, subst, arith, inl, inr, Option, Some, None, List, get_or, take}
 use Rattle.std.specs.List.{flat_map}
 use Rattle.std.proofs.lemmas.Bool.{cases_lt}
 use Rattle.std.proofs.Math.Pow.{pow-lt}
@@ -8,13 +8,16 @@ use Rattle.history_model.specs.Logs.{Log, IsLegal}
 use Rattle.history_model.specs.Stores.{stored_in}
 use Rattle.node_words.specs.declared.shapes.names.Name.{Name}
 use Rattle.node_words.specs.Plans.{Layout}
+use Rattle.core_laws.specs.contents.Aligned.{top}
 use Rattle.core_laws.specs.contents.Versions.{HoldsVersion, SameWorld}
 use Rattle.core_laws.specs.States.{State}
 use Rattle.core_laws.specs.Soundness.{Sound}
 use Rattle.core_laws.proofs.RootCells.{same_cells, same_root, no_root_no_cell, no_cell_no_root}
+use Rattle.world_core.specs.declared.closed.Closed.{Closed}
+use Rattle.world_core.specs.declared.closed.Root.{Root}
 use Rattle.report.specs.declared.rows.ReportRow.{ReportRow}
 use Rattle.report.specs.Reports.{HasNoCell, FirstFits, IsReport, head_lines, row_line, level_lines, report_of}
-use Rattle.report.specs.Roots.{RootsNameWorlds, FirstTold, RowsBelow}
+use Rattle.report.specs.Roots.{AreKeptRoots, RootsNameWorlds, FirstTold, RowsBelow, TellsReport, root_in_list}
 use Rattle.report.specs.Numbers.{AreNumbers}
 
 -- the side of a legal log is that of its world
@@ -91,6 +94,22 @@ report_told models log root rows numbers text below is tell are = record {
   are = are;
   is = is;
 }
+
+-- and so is what a closed world left
+pub closed_told : (models : List Content) (closed : Closed) (roots : List Root)
+    (rows : List ReportRow) (numbers text : List ℕ) → roots ≡ closed.roots.items
+    → ((log : Log) → AreKeptRoots log roots
+    → RowsBelow log (root_in_list roots) (length log.records + 1) rows)
+    → numbers ≡ take (top closed.history.side + 1) closed.live
+    → text ≡ report_of closed.history rows numbers → TellsReport models closed
+    → IsReport models closed.history text
+closed_told models closed roots rows numbers text same below many is tells =
+    report_told models closed.history (root_in_list roots) rows numbers text
+    (below closed.history
+    (subst (λ (rs : List Root). AreKeptRoots closed.history rs) (sym same) tells.roots)) is
+    (subst (λ (rs : List Root). RootsNameWorlds models closed.history (root_in_list rs))
+    (sym same) tells.worlds)
+    (subst (λ (ns : List ℕ). AreNumbers models closed.history ns) (sym many) tells.numbers)
 
 -- the parts of the text, one after another
 pub text_told : (head rowed all text : List ℕ) (log : Log) (rows seen : List ReportRow)

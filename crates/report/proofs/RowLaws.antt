@@ -1,5 +1,5 @@
 -- One version more: its row, and the first version with its root.
-use Rattle.std.proofs.Common.{◌≡◌, ℕ, ◌+◌, ◌<◌, ◌==◌, Bool, true, false, if◌then◌else◌, List, [], ◌∷◌, ◌++◌, map, refl, sym, ◌∙◌, ap, subst, arith, inl, inr, Option, Some, None}
+use Rattle.std.proofs.Common.{◌≡◌, ℕ, ◌+◌, ◌<◌, ◌≤◌, ◌==◌, Bool, true, false, if◌then◌else◌, List, [], ◌∷◌, ◌++◌, map, refl, sym, ◌∙◌, ap, subst, arith, inl, inr, Option, Some, None}
 use Rattle.std.specs.Prelude.{unwrap_or}
 use Rattle.std.specs.List.{Contains}
 use Rattle.std.proofs.lemmas.Bool.{cases_lt, eqb-true, eq-eqb, false≢true}
@@ -40,16 +40,18 @@ module _ (log : Log) (root : ℕ → Option Name) (v : ℕ) where
         told = All-nil _;
       }
 
-  pub rows_skip : (rows : List ReportRow) → ¬ HoldsVersion log v → RowsBelow log root v rows
-      → RowsBelow log root (v + 1) rows
-  rows_skip rows marked r = record {
+  -- versions of which none is kept may be passed over
+  pub rows_to : (later : ℕ) (rows : List ReportRow) → v ≤ later
+      → ((u : ℕ) → v ≤ u → u < later → ¬ HoldsVersion log u) → RowsBelow log root v rows
+      → RowsBelow log root later rows
+  rows_to later rows le none r = record {
     rising = r.rising;
-    below = All-weaker (λ s. s.version < v) (λ s. s.version < v + 1)
+    below = All-weaker (λ s. s.version < v) (λ s. s.version < later)
         (λ s less. omega arith) rows r.below;
     kept = r.kept;
     all = λ u less kept. elim (cases_lt u v) [
       | inl lower ↦ r.all u lower kept
-      | inr high ↦ absurd (marked (subst (λ (n : ℕ). HoldsVersion log n) (omega arith) kept))
+      | inr high ↦ absurd (none u (omega arith) less kept)
     ];
     told = r.told;
   }
@@ -87,8 +89,9 @@ module _ (log : Log) (root : ℕ → Option Name) (v : ℕ) where
             (omega arith);
       }
 
-  later_first : (k w : ℕ) → IsFirstAt log root v k w → IsFirstAt log root (v + 1) k w
-  later_first k w f =
+  later_first : (later k w : ℕ) → v ≤ later → IsFirstAt log root v k w
+      → IsFirstAt log root later k w
+  later_first later k w le f =
       record {
         kept = f.kept;
         below =
@@ -104,7 +107,7 @@ module _ (log : Log) (root : ℕ → Option Name) (v : ℕ) where
   pub firsts_skip : (firsts : ℕ → Option ℕ) → (HoldsVersion log v → root v ≡ None)
       → FirstsBelow log root v firsts → FirstsBelow log root (v + 1) firsts
   firsts_skip firsts none f = record {
-    first = λ k w is. later_first k w (f.first k w is);
+    first = λ k w is. later_first (v + 1) k w (omega arith) (f.first k w is);
     there = λ u n less kept is. elim (cases_lt u v) [
       | inl lower ↦ f.there u n lower kept is
       | inr high ↦ absurd (
@@ -112,6 +115,17 @@ module _ (log : Log) (root : ℕ → Option Name) (v : ℕ) where
           let here : root v ≡ None = none (subst (λ (m : ℕ). HoldsVersion log m) at kept) in
           let e : Some n ≡ None = sym is ∙ ap root at ∙ here in
           let no : ⊥ = cc in no)
+    ];
+  }
+
+  pub firsts_to : (later : ℕ) (firsts : ℕ → Option ℕ) → v ≤ later
+      → ((u : ℕ) → v ≤ u → u < later → ¬ HoldsVersion log u) → FirstsBelow log root v firsts
+      → FirstsBelow log root later firsts
+  firsts_to later firsts le none f = record {
+    first = λ k w is. later_first later k w le (f.first k w is);
+    there = λ u n less kept is. elim (cases_lt u v) [
+      | inl lower ↦ f.there u n lower kept is
+      | inr high ↦ absurd (none u (omega arith) less kept)
     ];
   }
 
@@ -143,7 +157,7 @@ module _ (log : Log) (root : ℕ → Option Name) (v : ℕ) where
         → IsFirstAt log root (v + 1) (root_number n) (unwrap_or listed v)
     here_first None none =
         record { kept = kept; below = omega arith; name = n; is = is; number = refl; bucket = bucket; slot = slot; least = λ u less of_u e. f.there u n less of_u e (sym none) }
-    here_first (Some w) listed = later_first (root_number n) w
+    here_first (Some w) listed = later_first (v + 1) (root_number n) w (omega arith)
         (f.first (root_number n) w (sym listed))
 
     pub firsts_more : (new : ℕ → Option ℕ)
@@ -166,9 +180,10 @@ module _ (log : Log) (root : ℕ → Option Name) (v : ℕ) where
             subst (λ (j : ℕ). IsFirstAt log root (v + 1) j w) (sym number)
             (subst (λ (u : ℕ). IsFirstAt log root (v + 1) (root_number n) u) first
             (here_first (old (root_number n)) refl))
-        of_first k w false e found = later_first k w (f.first k w found)
+        of_first k w false e found = later_first (v + 1) k w (omega arith) (f.first k w found)
 
-        of_there : (u : ℕ) (m : Name) → u < v + 1 → HoldsVersion log u → root u ≡ Some m → (b : Bool)
+        of_there : (u : ℕ) (m : Name) → u < v + 1 → HoldsVersion log u → root u ≡ Some m
+            → (b : Bool)
             → (root_number m == root_number n) ≡ b
             → (if b then Some (unwrap_or (old (root_number n)) v) else old (root_number m)) ≡ None
             → ⊥
@@ -183,45 +198,39 @@ module _ (log : Log) (root : ℕ → Option Name) (v : ℕ) where
               false≢true (sym e ∙ eq-eqb (root_number m) (root_number n) number))
         ]
 
--- ---- what becomes of the next version
+-- ---- what becomes of a kept version
 
-module _ (log : Log) (root : ℕ → Option Name) (v : ℕ) (is_kept : Bool) (rows : List ReportRow)
-    (old : ℕ → Option ℕ) (r : RowsBelow log root v rows) (f : FirstsBelow log root v old) where
-  pub marked_row : is_kept ≡ false → (is_kept ≡ false → ¬ HoldsVersion log v)
-      → RowsBelow log root (v + 1) rows × FirstsBelow log root (v + 1) old
-  marked_row off marked =
-      let gone : ¬ HoldsVersion log v = marked off in
-      (rows_skip log root v rows gone r, firsts_skip log root v old (λ kept. absurd (gone kept)) f)
-
-  more_rows : (more : List ReportRow) (first : Option ℕ) → HoldsVersion log v → FirstTold log root v first
+module _ (log : Log) (root : ℕ → Option Name) (v : ℕ) (rows : List ReportRow)
+    (old : ℕ → Option ℕ) (kept : HoldsVersion log v) (r : RowsBelow log root v rows)
+    (f : FirstsBelow log root v old) where
+  more_rows : (more : List ReportRow) (first : Option ℕ) → FirstTold log root v first
       → more ≡ rows ++ record { version = v; first = first } ∷ [] → RowsBelow log root (v + 1) more
-  more_rows more first kept told pushed = subst
+  more_rows more first told pushed = subst
       (λ (rs : List ReportRow). RowsBelow log root (v + 1) rs) (sym pushed)
       (rows_more log root v rows first kept told r)
 
-  pub empty_row : (more : List ReportRow) (new : ℕ → Option ℕ) (first : Option ℕ) → is_kept ≡ true
-      → (is_kept ≡ true → HoldsVersion log v) → root v ≡ None → first ≡ None → new ≡ old
+  pub empty_row : (more : List ReportRow) (new : ℕ → Option ℕ) (first : Option ℕ)
+      → root v ≡ None → first ≡ None → new ≡ old
       → more ≡ rows ++ record { version = v; first = first } ∷ []
       → RowsBelow log root (v + 1) more × FirstsBelow log root (v + 1) new
-  empty_row more new first on of_kept none is same pushed = (
-    more_rows more first (of_kept on)
+  empty_row more new first none is same pushed = (
+    more_rows more first
         (subst (λ (o : Option ℕ). FirstTold log root v o) (sym is) none) pushed,
     subst (λ (g : ℕ → Option ℕ). FirstsBelow log root (v + 1) g) (sym same)
         (firsts_skip log root v old (λ kept. none) f),
   )
 
   pub rooted_row : (more : List ReportRow) (new : ℕ → Option ℕ) (first : Option ℕ) (n : Name)
-      (found : ℕ) → is_kept ≡ true → (is_kept ≡ true → HoldsVersion log v) → root v ≡ Some n
+      (found : ℕ) → root v ≡ Some n
       → n.bucket < 65536 → n.slot < 256 → first ≡ Some found
       → found ≡ unwrap_or (old (root_number n)) v
       → ((k : ℕ) → new k ≡ (if k == root_number n then Some found else old k))
       → more ≡ rows ++ record { version = v; first = first } ∷ []
       → RowsBelow log root (v + 1) more × FirstsBelow log root (v + 1) new
-  rooted_row more new first n found on of_kept is bucket slot listed which each pushed =
-      let kept : HoldsVersion log v = of_kept on in
+  rooted_row more new first n found is bucket slot listed which each pushed =
       let told : FirstTold log root v (Some (unwrap_or (old (root_number n)) v)) =
       first_told log root v n bucket slot is kept old f (old (root_number n)) refl in (
-        more_rows more first kept
+        more_rows more first
             (subst (λ (o : Option ℕ). FirstTold log root v o)
             (ap Some (sym which) ∙ sym listed) told) pushed,
         firsts_more log root v n bucket slot is kept old f new

@@ -1,13 +1,16 @@
 -- How the roots of versions tell which of them have the same cells.
-use Rattle.std.specs.Prelude.{◌≡◌, ◌≢◌, ℕ, ◌+◌, ◌*◌, ◌^◌, ◌<◌, ◌≤◌, true, false, Bool, Option, Some, None, List, map, length, All, AllPairs, slice_index_or}
+use Rattle.std.specs.Prelude.{◌≡◌, ◌≢◌, ℕ, ◌+◌, ◌*◌, ◌^◌, ◌<◌, ◌≤◌, ◌==◌, if◌then◌else◌, Option, Some, None, List, [], ◌∷◌, map, length, take, All, AllPairs, slice_index_or}
 use Rattle.std.specs.List.{Contains}
 use Rattle.history_model.specs.Contents.{Content}
-use Rattle.history_model.specs.declared.histories.Mark.{Mark}
 use Rattle.history_model.specs.Logs.{Log}
 use Rattle.history_model.specs.Stores.{store_has}
 use Rattle.node_words.specs.declared.shapes.names.Name.{Name}
-use Rattle.core_laws.specs.contents.Versions.{HoldsVersion, IsUnmarked, SameWorld}
+use Rattle.core_laws.specs.contents.Aligned.{top}
+use Rattle.core_laws.specs.contents.Versions.{HoldsVersion, SameWorld}
+use Rattle.world_core.specs.declared.closed.Closed.{Closed}
+use Rattle.world_core.specs.declared.closed.Root.{Root}
 use Rattle.report.specs.declared.rows.ReportRow.{ReportRow}
+use Rattle.report.specs.Numbers.{AreNumbers}
 use Rattle.report.specs.Reports.{HasNoCell}
 
 -- two kept versions have one root just where they have the same cells, and none just where they
@@ -24,9 +27,24 @@ pub record RootsNameWorlds (models : List Content) (log : Log) (root : ℕ → O
         → SameWorld (2 ^ log.side) (store_has models log v) (store_has models log w)
         → root v ≡ root w
 
--- the root of each version, by a list of them
-abbrev pub listed_root : List (Option Name) → ℕ → Option Name
-listed_root roots v = slice_index_or roots v None
+-- the root of a version, by a list of them
+abbrev pub root_in_list : List Root → ℕ → Option Name
+root_in_list [] v = None
+root_in_list (r ∷ roots) v = if r.version == v then r.name else root_in_list roots v
+
+-- they are those of the kept versions, one for each, by rising version
+pub record AreKeptRoots (log : Log) (roots : List Root) : Type 0 where
+  pub rising : AllPairs (λ a b. a.version < b.version) roots
+  pub kept : All (λ r. HoldsVersion log r.version) roots
+  pub all : (v : ℕ) → HoldsVersion log v → Contains (map (λ r. r.version) roots) v
+
+-- what a closed world left tells the report of its history: the roots of the kept versions tell
+-- which of them have the same cells, and the numbers of live nodes are those of the different
+-- contents
+pub record TellsReport (models : List Content) (closed : Closed) : Type 0 where
+  pub roots : AreKeptRoots closed.history closed.roots.items
+  pub worlds : RootsNameWorlds models closed.history (root_in_list closed.roots.items)
+  pub numbers : AreNumbers models closed.history (take (top closed.history.side + 1) closed.live)
 
 -- w is the least kept version with the root of v, which has one
 pub record IsFirstRoot (log : Log) (root : ℕ → Option Name) (v w : ℕ) : Type 0 where
@@ -41,13 +59,6 @@ FirstTold log root v None = root v ≡ None
 FirstTold log root v (Some w) = IsFirstRoot log root v w
 
 -- ---- how the rows are found
-
--- which of the versions below a number have no mark
-pub record ShowsUnmarked (marks : List Mark) (kept : List Bool) : Type 0 where
-  pub unmarked : (v : ℕ) → v < length kept → slice_index_or kept v false ≡ true
-      → IsUnmarked marks v
-  pub marked : (v : ℕ) → v < length kept → slice_index_or kept v false ≡ false
-      → ¬ IsUnmarked marks v
 
 -- the rows of the kept versions below v, as their roots tell them
 pub record RowsBelow (log : Log) (root : ℕ → Option Name) (v : ℕ)
@@ -79,3 +90,16 @@ pub record FirstsBelow (log : Log) (root : ℕ → Option Name) (v : ℕ)
   pub first : (k w : ℕ) → firsts k ≡ Some w → IsFirstAt log root v k w
   pub there : (u : ℕ) (n : Name) → u < v → HoldsVersion log u → root u ≡ Some n
       → firsts (root_number n) ≢ None
+
+-- the roots before this one in the list are of versions below v, and it and those behind it are not
+pub record IsBetween (roots : List Root) (i v : ℕ) : Type 0 where
+  pub before : (j : ℕ) (d : Root) → j < i → j < length roots
+      → (slice_index_or roots j d).version < v
+  pub behind : (j : ℕ) (d : Root) → i ≤ j → j < length roots
+      → v ≤ (slice_index_or roots j d).version
+
+-- the rows and the look-up of the roots before this one
+pub record RowsBefore (log : Log) (roots : List Root) (i : ℕ) (rows : List ReportRow)
+    (firsts : ℕ → Option ℕ) : Type 0 where
+  pub below : (v : ℕ) → IsBetween roots i v → RowsBelow log (root_in_list roots) v rows
+  pub look_up : (v : ℕ) → IsBetween roots i v → FirstsBelow log (root_in_list roots) v firsts

@@ -1,16 +1,16 @@
-ghost use Rattle.std.specs.Prelude.{◌≡◌, ◌+◌, ◌<◌, ◌≤◌, ◌==◌, ℕ, true, false, Some, Option, if◌then◌else◌, length, All, IfOk, unwrap_or};
+ghost use Rattle.std.specs.Prelude.{◌≡◌, ◌+◌, ◌<◌, ◌==◌, ℕ, Some, Option, if◌then◌else◌, length, IfOk, unwrap_or};
 ghost use Rattle.std.specs.Ordering.{nat_cmp};
 ghost use Rattle.std.specs.BTreeMap.{get};
 ghost use Rattle.history_model.specs.Logs.{Log};
 ghost use Rattle.node_words.specs.declared.shapes.names.Name.{Name};
 ghost use Rattle.core_laws.specs.contents.Versions.{HoldsVersion};
-ghost use Rattle.report.specs.Roots.{ShowsUnmarked, RowsBelow, FirstsBelow, listed_root, root_number};
+ghost use Rattle.report.specs.Roots.{AreKeptRoots, RowsBelow, FirstsBelow, root_in_list, root_number};
 
-use history_model::History;
 use node_words::Name;
-use std::alloc::{AllocError, Global};
+use std::alloc::Global;
 use std::collections::BTreeMap;
 use vw_cell::Memory;
+use world_core::Root;
 
 /// What a report says of a version that is kept.
 #[derive(Clone, Copy, Debug, PartialEq, Eq)]
@@ -20,68 +20,34 @@ pub struct ReportRow {
     pub first: Option<u32>,
 }
 
-// The rows of all kept versions, by the roots of all versions.
-pub(crate) fn rows(
-    alloc: Global,
-    history: &History,
-    roots: &[Option<Name>],
-) -> Result<Vec<ReportRow>, Memory>
-    requires few { length history.now.records ≤ 65535 }
-    requires marks { All (λ m. m.version ≤ length history.now.records) history.now.marks }
-    requires roots { length history.now.records < length roots.now }
-    ensures { IfOk result (λ rows. RowsBelow history.now (listed_root roots.now)
-        (length history.now.records + 1) rows.items) }
+// The rows of all kept versions, by their roots.
+pub(crate) fn rows(alloc: Global, roots: &[Root]) -> Result<Vec<ReportRow>, Memory>
+    ensures { IfOk result (λ rows. (log : Log) → AreKeptRoots log roots.now
+        → RowsBelow log (root_in_list roots.now) (length log.records + 1) rows.items) }
 {
-    let kept = unmarked(alloc, history)?;
     let mut firsts = BTreeMap::new(alloc);
-    let mut rows = Vec::with_capacity(alloc, kept.len())?;
-    for (version, is_kept) in kept.iter().enumerate() {
-        add_row(
-            &mut rows,
-            &mut firsts,
-            version as u32,
-            *is_kept,
-            roots[version],
-        )?;
+    let mut rows = Vec::with_capacity(alloc, roots.len())?;
+    for root in roots {
+        add_row(&mut rows, &mut firsts, *root)?;
     }
     Ok(rows)
 }
 
-// Of each version up to the newest, whether it has no mark.
-fn unmarked(alloc: Global, history: &History) -> Result<Vec<bool>, AllocError>
-    requires few { length history.now.records ≤ 65535 }
-    requires marks { All (λ m. m.version ≤ length history.now.records) history.now.marks }
-    ensures all { IfOk result (λ kept. length kept.items ≡ length history.now.records + 1) }
-    ensures shown { IfOk result (λ kept. ShowsUnmarked history.now.marks kept.items) }
-{
-    let mut kept = vec![in alloc; true; history.records.len() + 1]?;
-    for mark in &history.marks {
-        kept[mark.version as usize] = false;
-    }
-    Ok(kept)
-}
-
-// Adds the row of the next version, where that is kept.
+// Adds the row of a version that is kept.
 fn add_row(
     rows: &mut Vec<ReportRow>,
     firsts: &mut BTreeMap<u32, u32>,
-    version: u32,
-    is_kept: bool,
-    root: Option<Name>,
+    root: Root,
 ) -> Result<(), Memory>
     ensures { IfOk result (λ _. (log : Log) (root_of : ℕ → Option Name)
-        → root ≡ root_of version
-        → (is_kept ≡ true → HoldsVersion log version)
-        → (is_kept ≡ false → ¬ HoldsVersion log version)
-        → RowsBelow log root_of version rows.old.items
-        → FirstsBelow log root_of version (get nat_cmp firsts.old)
-        → RowsBelow log root_of (version + 1) rows.new.items
-        × FirstsBelow log root_of (version + 1) (get nat_cmp firsts.new)) }
+        → root.name ≡ root_of root.version → HoldsVersion log root.version
+        → RowsBelow log root_of root.version rows.old.items
+        → FirstsBelow log root_of root.version (get nat_cmp firsts.old)
+        → RowsBelow log root_of (root.version + 1) rows.new.items
+        × FirstsBelow log root_of (root.version + 1) (get nat_cmp firsts.new)) }
 {
-    if !is_kept {
-        return Ok(());
-    }
-    let first = match root {
+    let Root { version, name } = root;
+    let first = match name {
         Some(n) => Some(first_with(firsts, n, version)?),
         None => None,
     };

@@ -1,40 +1,34 @@
-ghost use Rattle.std.specs.Prelude.{◌≡◌, ◌++◌, ◌<◌, ◌≤◌, List, length, All, IfOk, string_bytes};
+ghost use Rattle.std.specs.Prelude.{◌≡◌, ◌++◌, ◌+◌, List, take, IfOk, string_bytes};
 ghost use Rattle.std.specs.List.{flat_map};
 ghost use Rattle.history_model.specs.Contents.{Content};
-ghost use Rattle.report.specs.Numbers.{AreNumbers};
+ghost use Rattle.core_laws.specs.contents.Aligned.{top};
 ghost use Rattle.report.specs.Reports.{IsReport, head_lines, row_line, level_line, level_lines};
-ghost use Rattle.report.specs.Roots.{RootsNameWorlds, listed_root};
+ghost use Rattle.report.specs.Roots.{TellsReport};
 
 use crate::rows::{ReportRow, rows};
 use history_model::History;
-use node_words::Name;
 use std::alloc::{AllocError, Global};
 use vw_cell::Memory;
+use world_core::Closed;
 
-/// The report of a legal history, from the roots of its versions and the number of live nodes of
-/// each level.
-///
-/// The roots stand by version. Those of kept versions alone are asked, and a version without a set
-/// cell has none.
-pub fn report_text(
-    alloc: Global,
-    history: &History,
-    roots: &[Option<Name>],
-    numbers: &[u32],
-) -> Result<Vec<u8>, Memory>
-    requires few { length history.now.records ≤ 65535 }
-    requires marks { All (λ m. m.version ≤ length history.now.records) history.now.marks }
-    requires roots { length history.now.records < length roots.now }
-    ensures { IfOk result (λ text. (models : List Content)
-        → RootsNameWorlds models history.now (listed_root roots.now)
-        → AreNumbers models history.now numbers.now
-        → IsReport models history.now text.items) }
+/// The report of what a closed world left.
+pub fn report_text(alloc: Global, closed: &Closed) -> Result<Vec<u8>, Memory>
+    ensures { IfOk result (λ text. (models : List Content) → TellsReport models closed.now
+        → IsReport models closed.now.history text.items) }
 {
-    let rows = rows(alloc, history, roots)?;
-    let mut text = head_text(alloc, history)?;
+    let rows = rows(alloc, closed.roots.as_slice())?;
+    let mut text = head_text(alloc, &closed.history)?;
     put_rows(&mut text, &rows)?;
-    put_levels(&mut text, numbers)?;
+    put_levels(&mut text, level_numbers(closed))?;
     Ok(text.into_bytes())
+}
+
+// How many nodes of each level of the world were live, from level 0 up.
+fn level_numbers(closed: &Closed) -> &[u32]
+    ensures { result.now ≡ take (top closed.now.history.side + 1) closed.now.live }
+{
+    let levels = usize::from(closed.history.side.root_level()) + 1;
+    &closed.live[..levels]
 }
 
 // The lines before the rows.

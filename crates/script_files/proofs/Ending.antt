@@ -30,7 +30,7 @@ use Rattle.world_run.specs.Ends.{IsEndOf}
 use Rattle.world_run.specs.Open.{RunState, file_of_save}
 use Rattle.script_files.specs.declared.tallies.RunWritten.{RunWritten}
 use Rattle.report.specs.Numbers.{AreNumbers}
-use Rattle.report.specs.Roots.{RootsNameWorlds, listed_root}
+use Rattle.report.specs.Roots.{TellsReport}
 use Rattle.world_run.specs.declared.runs.ScriptsRun.{ScriptsRun}
 use Rattle.world_run.specs.declared.endings.WorldRan.{WorldRan}
 use Rattle.script_files.specs.declared.tallies.Tally.{Tally}
@@ -100,11 +100,11 @@ closed_writes asked r (Err refused) old new writes = inr writes
 -- the texts of a closed world are those of its history
 pub told_texts : (asked : Asked) (r : RunState) (w : WorldRan) (texts : HistoryTexts)
     → TellsClosedRun r w
-    → ((models : List Content) → RootsNameWorlds models w.ended.history (listed_root w.roots.items)
+    → ((models : List Content) → TellsReport models w.ended
     → AreNumbers models w.ended.history w.numbers.items
     → AreTexts asked models w.ended.history texts)
     → AreTexts asked r.models w.ended.history texts
-told_texts asked r w texts tells are = are r.models tells.roots tells.numbers
+told_texts asked r w texts tells are = are r.models tells.report tells.numbers
 
 -- the journal where it is asked for
 same_wanted : (name : Option (List ℕ)) (text want : List ℕ) → JournalIs name text want

@@ -13,7 +13,7 @@ use Rattle.world_run.specs.Closes.{HadHistory}
 use Rattle.world_run.specs.Ends.{IsEndOf}
 use Rattle.world_run.specs.Open.{RunState, file_of_save}
 use Rattle.report.specs.Numbers.{AreNumbers}
-use Rattle.report.specs.Roots.{RootsNameWorlds, listed_root}
+use Rattle.report.specs.Roots.{TellsReport}
 use Rattle.world_run.specs.declared.runs.ScriptsRun.{ScriptsRun}
 use Rattle.world_run.specs.declared.endings.WorldRan.{WorldRan}
 use Rattle.script_files.specs.declared.tallies.RunWritten.{RunWritten}
@@ -99,7 +99,7 @@ pub record StopsClosed (asked : Asked) (r : RunState) (refused : OutputRefused)
 -- what a closed world tells of the run
 pub record TellsClosedRun (r : RunState) (w : WorldRan) : Type 0 where
   pub closes : ClosesRun r w.ended
-  pub roots : RootsNameWorlds r.models w.ended.history (listed_root w.roots.items)
+  pub report : TellsReport r.models w.ended
   pub numbers : AreNumbers r.models w.ended.history w.numbers.items
 
 abbrev pub WritesClosed : Asked → RunState → Result RunWritten OutputRefused → ShelfState

@@ -139,10 +139,6 @@ fn write_closed<S: Shelf>(
     ran: WorldRan,
     shelf: &mut S,
 ) -> Result<RunWritten, OutputRefused>
-    requires few { length ran.ended.history.records ≤ 65535 }
-    requires marks { All (λ m. m.version ≤ length ran.ended.history.records)
-        ran.ended.history.marks }
-    requires places { length ran.ended.history.records < length ran.roots.items }
     requires levels { length ran.numbers.items ≤ 11 }
     ensures writes { (r : RunState) → TellsClosedRun r ran → WritesClosed order.now r result
         (S.state shelf.old) (S.state shelf.new) }

@@ -1,9 +1,9 @@
-ghost use Rattle.std.specs.Prelude.{◌≡◌, ◌≤◌, ◌<◌, List, ℕ, length, map, All, IfOk};
+ghost use Rattle.std.specs.Prelude.{◌≡◌, ◌≤◌, List, ℕ, length, map, IfOk};
 ghost use Rattle.std.specs.List.{sum};
 ghost use Rattle.vox_read.specs.Contents.{Content};
 ghost use Rattle.history_model.specs.Journal.{journal_of};
 ghost use Rattle.report.specs.Numbers.{AreNumbers};
-ghost use Rattle.report.specs.Roots.{RootsNameWorlds, listed_root};
+ghost use Rattle.report.specs.Roots.{TellsReport};
 ghost use Rattle.transcript.specs.Lines.{transcript_of};
 ghost use Rattle.script_files.specs.Reports.{ReportIs};
 ghost use Rattle.script_files.specs.Stages.{JournalIs, AreTexts};
@@ -11,14 +11,13 @@ ghost use Rattle.script_files.specs.Stages.{JournalIs, AreTexts};
 use crate::tallies::Tally;
 use conformance::Transcript;
 use history_model::{History, journal_text};
-use node_words::Name;
 use report::report_text;
 use requests::Order;
 use std::alloc::Global;
 use std::marker::Model;
 use transcript::transcript_text;
 use vw_cell::Memory;
-use world_run::WorldRan;
+use world_run::{Closed, WorldRan};
 
 /// What a history tells, and its texts. They are empty where they are not asked for.
 #[derive(Drop)]
@@ -58,28 +57,22 @@ pub(crate) fn history_texts(
     order: &Order<'_>,
     ran: &WorldRan,
 ) -> Result<Texts, Memory>
-    requires few { length ran.now.ended.history.records ≤ 65535 }
-    requires marks { All (λ m. m.version ≤ length ran.now.ended.history.records)
-        ran.now.ended.history.marks }
-    requires places { length ran.now.ended.history.records < length ran.now.roots.items }
     requires levels { length ran.now.numbers.items ≤ 11 }
     ensures { IfOk result (λ texts. (models : List Content)
-        → RootsNameWorlds models ran.now.ended.history (listed_root ran.now.roots.items)
+        → TellsReport models ran.now.ended
         → AreNumbers models ran.now.ended.history ran.now.numbers.items
         → AreTexts order.now models ran.now.ended.history texts) }
 {
     let closed = ran.ended.closed();
     let history = &closed.history;
-    let roots = ran.roots.as_slice();
-    let numbers = ran.numbers.as_slice();
     let tally = Tally {
         scripts: order.scripts.len() as u64,
         records: history.records.len() as u64,
         marks: history.marks.len() as u64,
-        nodes: nodes_of(numbers),
+        nodes: nodes_of(ran.numbers.as_slice()),
     };
     let journal = asked_journal(alloc, order, history)?;
-    let report = asked_report(alloc, order, history, roots, numbers)?;
+    let report = asked_report(alloc, order, closed)?;
     Ok(Texts {
         tally,
         journal,
@@ -109,24 +102,13 @@ fn asked_journal(alloc: Global, order: &Order<'_>, history: &History) -> Result<
     }
 }
 
-fn asked_report(
-    alloc: Global,
-    order: &Order<'_>,
-    history: &History,
-    roots: &[Option<Name>],
-    numbers: &[u32],
-) -> Result<Vec<u8>, Memory>
-    requires few { length history.now.records ≤ 65535 }
-    requires marks { All (λ m. m.version ≤ length history.now.records) history.now.marks }
-    requires places { length history.now.records < length roots.now }
-    ensures { IfOk result (λ text. (models : List Content)
-        → RootsNameWorlds models history.now (listed_root roots.now)
-        → AreNumbers models history.now numbers.now
-        → ReportIs order.now.report models history.now text.items) }
+fn asked_report(alloc: Global, order: &Order<'_>, closed: &Closed) -> Result<Vec<u8>, Memory>
+    ensures { IfOk result (λ text. (models : List Content) → TellsReport models closed.now
+        → ReportIs order.now.report models closed.now.history text.items) }
 {
     match order.report {
         None => Ok(Vec::new(alloc)),
-        Some(_) => report_text(alloc, history, roots, numbers),
+        Some(_) => report_text(alloc, closed),
     }
 }
 

@@ -27,8 +27,8 @@ use Rattle.table_rule.specs.LogKnowing.{WasFound, numbered_from}
 use Rattle.node_table.specs.Closing as closing
 use Rattle.node_table.specs.Closing.{EndsTable, HadEnough, IsHistoryOfAll, views_of}
 use Rattle.node_table.specs.TableStates.{TableState, PassState}
-use Rattle.node_table.specs.declared.closed.Closed.{Closed}
-use Rattle.node_table.specs.declared.closed.Root.{Root}
+use Rattle.node_table.specs.Closed.{Closed}
+use Rattle.node_table.specs.Root.{Root}
 use Rattle.conformance.specs.sessions.Ran.{ClosesWorld, StillFound, records_of_all, marks_of_all, made_of_all, met_of_all}
 use Rattle.conformance.specs.sessions.SessionViews.{SessionView, MayTint, log_as}
 use Rattle.session.proofs.BeginLaws.{get_there}

@@ -6,7 +6,7 @@ use Rattle.core_laws.specs.contents.Aligned.{world_block}
 use Rattle.core_laws.specs.contents.Versions.{HoldsVersion}
 use Rattle.core_laws.specs.contents.Contents.{HasContents}
 use Rattle.node_table.specs.TableStates.{PassState, TableState}
-use Rattle.node_table.specs.declared.closed.Closed.{Closed}
+use Rattle.node_table.specs.Closed.{Closed}
 use Rattle.vox_read.specs.Contents.{Content}
 use Rattle.history_model.specs.Logs.{Log}
 use Rattle.node_words.specs.Plans.{Layout}

@@ -13,7 +13,7 @@ pub struct Ended {
 }
 
 impl Model for Ended {
-    ghost use Rattle.node_table.specs.declared.closed.Closed.{Closed};
+    ghost use Rattle.node_table.specs.Closed.{Closed};
 
     ghost Value = { Closed };
 

@@ -4,11 +4,13 @@
 //!
 //! A `Core` answers one event after another: what an event asks for stands in `specs/Lawful.antt`,
 //! what a reply means in `specs/Answering.antt`. Entries are lists of levels, buckets and slots: a
-//! bucket is told in `bucket_core`, the state that the lists show in `specs/Slots.antt`.
+//! bucket is told in `bucket_core`, the state that the lists show in `specs/Slots.antt`. What a
+//! closed world leaves is a `Closed`, whoever keeps its entries.
 #![tactic(auto)]
 
 mod answering;
 mod asking;
+mod closed;
 mod cores;
 mod entries;
 mod events;
@@ -22,6 +24,7 @@ mod sharing;
 mod slots;
 mod versions;
 
+pub use closed::{Closed, Root};
 pub use cores::Core;
 pub use entries::Entries;
 pub use events::{Event, Reply};

@@ -1,19 +1,18 @@
--- What a closed world tells, by version and by level.
-use Rattle.std.proofs.Common.{◌≡◌, ℕ, ◌+◌, ◌-◌, ◌<◌, ◌≤◌, ◌^◌, Option, List, [], ◌∷◌, ◌++◌, take, refl, sym, ◌∙◌, ap, subst, arith, append_assoc}
+-- What a closed world tells.
+use Rattle.std.proofs.Common.{◌≡◌, ℕ, ◌+◌, ◌-◌, ◌<◌, ◌≤◌, ◌^◌, List, [], ◌∷◌, ◌++◌, take, refl, sym, ◌∙◌, ap, subst, arith, append_assoc}
 use Rattle.std.specs.Prelude.{All, Bool, Result, Ok, Err, IfErr, IfOk}
 use Rattle.std.proofs.lemmas.List.{map_push}
 use Rattle.std.proofs.lemmas.List.Elements.{All-head}
 use Rattle.vox_read.specs.Contents.{Content}
 use Rattle.history_model.specs.Logs.{Log, IsLegal}
-use Rattle.node_words.specs.declared.shapes.names.Name.{Name}
 use Rattle.core_laws.specs.places.WordIds.{levels}
 use Rattle.core_laws.specs.contents.Aligned.{top}
 use Rattle.report.proofs.RootLaws.{log_side}
 use Rattle.report.specs.Numbers.{AreNumbers}
-use Rattle.report.specs.Roots.{RootsNameWorlds, listed_root}
+use Rattle.report.specs.Roots.{AreKeptRoots, TellsReport}
 use Rattle.node_table.specs.Closing.{EndsTable}
 use Rattle.node_table.specs.TableStates.{TableState, PassState}
-use Rattle.node_table.specs.declared.closed.Closed.{Closed}
+use Rattle.node_table.specs.Closed.{Closed}
 use Rattle.node_words.specs.Plans.{Layout}
 use Rattle.conformance.specs.sessions.Ran.{ClosesWorld}
 use Rattle.conformance.specs.sessions.SessionViews.{SessionView}
@@ -23,7 +22,6 @@ use Rattle.world_run.specs.declared.open_runs.SavedSession.{SavedSession}
 use Rattle.world_run.specs.Open.{saved_seen}
 use Rattle.world_run.specs.declared.endings.WorldRan.{WorldRan}
 use Rattle.world_run.specs.Ends.{IsEndOf}
-use Rattle.world_run.specs.ListedRoots.{root_in_list}
 use Rattle.world_run.proofs.Telling.{closed_tells}
 
 module _ (t : TableState) (closed : Closed) (low : 2 ≤ t.plan.side) (high : t.plan.side ≤ 12)
@@ -35,14 +33,6 @@ module _ (t : TableState) (closed : Closed) (low : 2 ≤ t.plan.side) (high : t.
   side_is : closed.history.side ≡ t.plan.side
   side_is = log_side t.plan t.models closed.history legal
 
-  pub roots_tell : (roots : List (Option Name))
-      → ((v : ℕ) → listed_root roots v ≡ root_in_list closed.roots.items v)
-      → RootsNameWorlds t.models closed.history (listed_root roots)
-  roots_tell roots told =
-      let same : root_in_list closed.roots.items ≡ listed_root roots = λ i v. sym (told v) i in
-      subst (λ (root : ℕ → Option Name). RootsNameWorlds t.models closed.history root) same
-      (closed_tells t closed low high ends).roots_tell
-
   pub numbers_are : (numbers : List ℕ) (n : ℕ) → n ≡ t.plan.side - 2
       → numbers ≡ take (n + 1) closed.live → AreNumbers t.models closed.history numbers
   numbers_are numbers n is told =
@@ -52,13 +42,25 @@ module _ (t : TableState) (closed : Closed) (low : 2 ≤ t.plan.side) (high : t.
       subst (λ (ns : List ℕ). AreNumbers t.models closed.history ns) same
       (closed_tells t closed low high ends).are_numbers
 
+  world_numbers : AreNumbers t.models closed.history
+          (take (top closed.history.side + 1) closed.live)
+  world_numbers = numbers_are (take (top closed.history.side + 1) closed.live)
+      (top closed.history.side) (ap (λ (s : ℕ). s - 2) side_is) refl
+
+  pub tells_report : TellsReport t.models closed
+  tells_report = record {
+    roots = subst (λ (log : Log). AreKeptRoots log closed.roots.items) (sym ends.history)
+        (record { rising = ends.roots.rising; kept = ends.roots.kept; all = ends.roots.all });
+    worlds = (closed_tells t closed low high ends).roots_tell;
+    numbers = world_numbers;
+  }
+
   pub is_end : (tint : Bool) → closed.history.coloured ≡ tint
       → IsEndOf tint t.models closed.history closed
   is_end tint coloured = record {
     history = refl;
     coloured = coloured;
-    numbers = numbers_are (take (top closed.history.side + 1) closed.live)
-        (top closed.history.side) (ap (λ (s : ℕ). s - 2) side_is) refl;
+    numbers = world_numbers;
     as_many = ends.live.as_many;
     above = λ level over. ends.live.above level (past level over);
   }
@@ -91,7 +93,8 @@ pub first_of : {X : Type 0} (P : X → Type 0) (x : X) (xs ys : List X) → ys �
 first_of {X} P x xs ys is all = All-head P x xs (subst (λ (zs : List X). All P zs) is all)
 
 -- a world that was closed, but of which there was no memory to tell, had that history
-pub ran_or_had : {E : Type 0} (p : Layout) (models : List Content) (tint : Bool) (sessions : List SessionView)
+pub ran_or_had : {E : Type 0} (p : Layout) (models : List Content) (tint : Bool)
+    (sessions : List SessionView)
     (log : Log) → ClosesWorld tint p models sessions log → (result : Result WorldRan E)
     → IfErr result (λ _. HadHistory tint p models sessions)
 ran_or_had p models tint sessions log closes (Ok r) = tt
@@ -109,13 +112,11 @@ module _ {E : Type 0} (t : TableState) (closed : Closed) (low : 2 ≤ t.plan.sid
       (is_end t closed low high ends tint coloured)
   ran_ends tint coloured (Err e) same = tt
 
-  pub ran_roots : (result : Result WorldRan E) → IfOk result (λ r. r.ended ≡ closed)
-      → IfOk result (λ r. (v : ℕ) → listed_root r.roots.items v ≡ root_in_list closed.roots.items v)
-      → IfOk result (λ r. RootsNameWorlds t.models r.ended.history (listed_root r.roots.items))
-  ran_roots (Ok r) same told = subst
-      (λ (c : Closed). RootsNameWorlds t.models c.history (listed_root r.roots.items)) (sym same)
-      (roots_tell t closed low high ends r.roots.items told)
-  ran_roots (Err e) same told = tt
+  pub ran_tells : (result : Result WorldRan E) → IfOk result (λ r. r.ended ≡ closed)
+      → IfOk result (λ r. TellsReport t.models r.ended)
+  ran_tells (Ok r) same = subst (λ (c : Closed). TellsReport t.models c) (sym same)
+      (tells_report t closed low high ends)
+  ran_tells (Err e) same = tt
 
   pub ran_numbers : (result : Result WorldRan E) (n : ℕ) → n ≡ t.plan.side - 2
       → IfOk result (λ r. r.ended ≡ closed)

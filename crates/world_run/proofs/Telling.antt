@@ -13,14 +13,13 @@ use Rattle.core_laws.specs.contents.Aligned.{top}
 use Rattle.core_laws.specs.contents.Versions.{HoldsVersion}
 use Rattle.node_table.specs.States.{State}
 use Rattle.report.specs.Numbers.{AreNumbers}
-use Rattle.report.specs.Roots.{RootsNameWorlds}
+use Rattle.report.specs.Roots.{RootsNameWorlds, root_in_list}
 use Rattle.report.proofs.NumberLaws.{numbers_told}
 use Rattle.report.proofs.RootLaws.{sound_roots}
 use Rattle.node_table.specs.Closing.{EndsTable}
 use Rattle.node_table.specs.TableStates.{TableState}
-use Rattle.node_table.specs.declared.closed.Closed.{Closed}
-use Rattle.node_table.specs.declared.closed.Root.{Root}
-use Rattle.world_run.specs.ListedRoots.{root_in_list}
+use Rattle.node_table.specs.Closed.{Closed}
+use Rattle.node_table.specs.Root.{Root}
 
 -- the numbers of the world's own levels
 abbrev pub live_numbers : TableState → Closed → List ℕ

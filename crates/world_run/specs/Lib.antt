@@ -2,8 +2,7 @@ pub mod Ends
 pub mod Open
 pub mod Works
 pub mod Starts
-pub mod ListedRoots
-pub use Rattle.node_table.specs.declared.closed.Closed
+pub use Rattle.node_table.specs.Closed
 pub use Rattle.session.specs.Roots
 pub use Rattle.session.specs.Closes
 pub use Rattle.session.specs.Reading

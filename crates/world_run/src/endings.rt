@@ -1,19 +1,16 @@
 //! How a run ends: its world is closed, or given up.
-ghost use Rattle.std.specs.Prelude.{◌≡◌, ◌<◌, ◌≤◌, [], ℕ, All, IfErr, IfOk, length, take, vec_capacity, vec_len};
+ghost use Rattle.std.specs.Prelude.{◌≡◌, ◌≤◌, [], All, IfErr, IfOk, length, take, vec_capacity, vec_len};
 ghost use Rattle.node_table.specs.LogTurns.{HasNoTurn};
 ghost use Rattle.report.specs.Numbers.{AreNumbers};
-ghost use Rattle.report.specs.Roots.{RootsNameWorlds, listed_root};
+ghost use Rattle.report.specs.Roots.{TellsReport};
 ghost use Rattle.conformance.specs.sessions.Ran.{ClosesWorld};
 ghost use Rattle.session.specs.Closes.{HadHistory, session_views};
 ghost use Rattle.session.specs.Resting.{IsAtRest};
 ghost use Rattle.session.specs.SessionWorlds.{session_view};
 ghost use Rattle.world_run.specs.Ends.{IsEndOf};
 ghost use Rattle.world_run.specs.Open.{IsSaved, saved_seen};
-ghost use Rattle.world_run.specs.ListedRoots.{root_in_list};
 
 use crate::open_runs::SavedSession;
-use node_table::Root;
-use node_words::Name;
 use session::{CloseRefused, Ended, Session, World};
 use std::alloc::Global;
 use std::sync::Wait;
@@ -23,8 +20,6 @@ use vw_cell::Memory;
 #[derive(Drop)]
 pub struct WorldRan {
     pub ended: Ended,
-    /// The root of each version, none where it has no set cell or is forgotten.
-    pub roots: Vec<Option<Name>>,
     /// How many nodes of each level are live, from level 0 up.
     pub numbers: Vec<u32>,
 }
@@ -45,10 +40,7 @@ pub(crate) fn close_over<R: Wait>(
         world.table.models (saved_seen sessions.items) r.ended.history) }
     ensures is_end { IfOk result
         (λ r. IsEndOf world.tint world.table.models r.ended.history r.ended) }
-    ensures places { IfOk result
-        (λ r. length r.ended.history.records < length r.roots.items) }
-    ensures roots { IfOk result (λ r. RootsNameWorlds world.table.models r.ended.history
-        (listed_root r.roots.items)) }
+    ensures report { IfOk result (λ r. TellsReport world.table.models r.ended) }
     ensures numbers { IfOk result
         (λ r. AreNumbers world.table.models r.ended.history r.numbers.items) }
     ensures refused { IfErr result (λ _. HadHistory world.tint world.table.plan
@@ -66,46 +58,14 @@ pub(crate) fn close_over<R: Wait>(
     }
 }
 
-// What a closed world tells, by version and by level.
+// What a closed world tells by level.
 fn told(alloc: Global, ended: Ended, levels: usize) -> Result<WorldRan, Memory>
     requires levels { levels ≤ 11 }
-    requires roots { All (λ r. r.version ≤ length ended.history.records) ended.roots.items }
     ensures ended { IfOk result (λ r. r.ended ≡ ended) }
-    ensures places { IfOk result (λ r. length ended.history.records < length r.roots.items) }
-    ensures roots { IfOk result (λ r. (v : ℕ) → listed_root r.roots.items v
-        ≡ root_in_list ended.roots.items v) }
     ensures numbers { IfOk result (λ r. r.numbers.items ≡ take levels ended.live) }
 {
-    let closed = ended.closed();
-    let versions = closed.history.records.len() + 1;
-    let roots = roots_by_version(alloc, closed.roots.as_slice(), versions)?;
-    let numbers = first_numbers(alloc, &closed.live, levels)?;
-    Ok(WorldRan {
-        ended,
-        roots,
-        numbers,
-    })
-}
-
-// The roots of so many versions, none where none is listed.
-fn roots_by_version(
-    alloc: Global,
-    roots: &[Root],
-    versions: usize,
-) -> Result<Vec<Option<Name>>, Memory>
-    requires { All (λ r. r.version < versions) roots.now }
-    ensures many { IfOk result (λ all. length all.items ≡ versions) }
-    ensures roots { IfOk result
-        (λ all. (v : ℕ) → listed_root all.items v ≡ root_in_list roots.now v) }
-{
-    let mut all = vec![in alloc; None; versions]?;
-    let mut k = roots.len();
-    while k > 0 {
-        k -= 1;
-        let Root { version, name } = roots[k];
-        all[version as usize] = name;
-    }
-    Ok(all)
+    let numbers = first_numbers(alloc, &ended.closed().live, levels)?;
+    Ok(WorldRan { ended, numbers })
 }
 
 fn first_numbers(alloc: Global, live: &[u32; 11], levels: usize) -> Result<Vec<u32>, Memory>

@@ -13,6 +13,7 @@ mod runs;
 mod works;
 
 pub use endings::WorldRan;
+pub use node_table::Closed;
 pub use open_runs::OpenRun;
 pub use runs::{ScriptsRun, Settings, run_scripts};
 pub use session::Ended;

@@ -2,7 +2,7 @@
 ghost use Rattle.std.specs.Prelude.{◌≡◌, ◌<◌, ◌≤◌, true, Some, All, IfErr, IfOk, length};
 ghost use Rattle.std.specs.List.{slice_get};
 ghost use Rattle.report.specs.Numbers.{AreNumbers};
-ghost use Rattle.report.specs.Roots.{RootsNameWorlds, listed_root};
+ghost use Rattle.report.specs.Roots.{TellsReport};
 ghost use Rattle.script.specs.Placing.{is_save_name};
 ghost use Rattle.conformance.specs.declared.saves.SavedBox.{SavedBox};
 ghost use Rattle.conformance.specs.sessions.LoggedSaves.{LoggedSave, logged_at};
@@ -156,10 +156,7 @@ impl OpenRun {
             self.models self.sessions r.ended.history) }
         ensures is_end { IfOk result
             (λ r. IsEndOf self.tint self.models r.ended.history r.ended) }
-        ensures places { IfOk result
-            (λ r. length r.ended.history.records < length r.roots.items) }
-        ensures roots { IfOk result (λ r. RootsNameWorlds self.models r.ended.history
-            (listed_root r.roots.items)) }
+        ensures report { IfOk result (λ r. TellsReport self.models r.ended) }
         ensures numbers { IfOk result
             (λ r. AreNumbers self.models r.ended.history r.numbers.items) }
         ensures refused { IfErr result (λ _. HadHistory self.tint self.plan

@@ -1,38 +1,10 @@
-ghost use Rattle.std.specs.Prelude.{◌≡◌, ◌≤◌, length, All, IfOk};
-
 use history_model::{Act, History, Mark, Record};
 use node_words::Name;
 use report::report_text;
 use std::alloc::Global;
 use std::test::Fail;
 use vw_cell::Side;
-
-// Four changes, and the version of none forgotten.
-#[tactic(auto, using(report::proofs::Singles::low_mark))]
-fn forgetful(alloc: Global) -> Result<History, Fail>
-    ensures records { IfOk result (λ h. length h.records ≡ 4) }
-    ensures marks { IfOk result (λ h. All (λ m. m.version ≤ 4) h.marks) }
-{
-    let side = Side::new(8).ok_or("a side")?;
-    let mut records = Vec::with_capacity(alloc, 4)?;
-    records.push(undo(1))?;
-    records.push(undo(2))?;
-    records.push(undo(3))?;
-    records.push(undo(4))?;
-    let mut marks = Vec::with_capacity(alloc, 1)?;
-    marks.push(Mark {
-        version: 0,
-        at: 4,
-        session: 0,
-        line: 5,
-    })?;
-    Ok(History {
-        side,
-        coloured: false,
-        records,
-        marks,
-    })
-}
+use world_core::{Closed, Root};
 
 fn undo(line: u32) -> Record {
     Record {
@@ -42,19 +14,58 @@ fn undo(line: u32) -> Record {
     }
 }
 
-fn root(bucket: u16, slot: u8) -> Option<Name> {
-    Some(Name {
-        level: 1,
-        bucket,
-        slot,
+// Four changes, and the version of none forgotten.
+fn forgetful(alloc: Global) -> Result<History, Fail> {
+    let side = Side::new(8).ok_or("a side")?;
+    let records = Vec::from_slice(alloc, &[undo(1), undo(2), undo(3), undo(4)])?;
+    let mark = Mark {
+        version: 0,
+        at: 4,
+        session: 0,
+        line: 5,
+    };
+    let marks = Vec::from_slice(alloc, &[mark])?;
+    Ok(History {
+        side,
+        coloured: false,
+        records,
+        marks,
+    })
+}
+
+fn root(version: u32, bucket: u16, slot: u8) -> Root {
+    let level = 1;
+    Root {
+        version,
+        name: Some(Name {
+            level,
+            bucket,
+            slot,
+        }),
+    }
+}
+
+// What is left of it: two versions of one root, one of another, and one with no set cell.
+fn left(alloc: Global) -> Result<Closed, Fail> {
+    let history = forgetful(alloc)?;
+    let none = Root {
+        version: 2,
+        name: None,
+    };
+    let all = [root(1, 1, 0), none, root(3, 1, 0), root(4, 0, 1)];
+    let roots = Vec::from_slice(alloc, &all)?;
+    let live = [2, 3, 0, 0, 0, 0, 0, 0, 0, 0, 0];
+    Ok(Closed {
+        history,
+        roots,
+        live,
     })
 }
 
 #[test]
 fn kept_versions_are_told_by_their_first_likes(rt: HostRuntime) -> Result<(), Fail> {
-    let history = forgetful(rt.alloc())?;
-    let roots = [None, root(1, 0), None, root(1, 0), root(0, 1)];
-    let text = report_text(rt.alloc(), &history, &roots, &[2, 3])?;
+    let closed = left(rt.alloc())?;
+    let text = report_text(rt.alloc(), &closed)?;
     let lines = b"voxdag report 1\nside 8\nrecords 4\nmarks 1\nversion 1 root 1\nversion 2 empty\n\
 version 3 root 1\nversion 4 root 4\nlevel 0 nodes 2\nlevel 1 nodes 3\n";
     assert_eq!(rt; text.as_slice(), lines.as_slice());

@@ -1,9 +1,10 @@
 use Rattle.std.specs.Ordering.{nat_cmp}
 use Rattle.std.specs.BTreeMap.{get}
-use Rattle.report.specs.Roots.{RowsBelow, FirstsBelow, listed_root}
+use Rattle.history_model.specs.Logs.{Log}
+use Rattle.report.specs.Roots.{AreKeptRoots, RowsBefore}
 use Rattle.report.proofs.rows.rows.Given as goal
 
-abbrev pub invariant-loop-version : goal.invariant-loop-version
-invariant-loop-version l =
-    RowsBelow l.history (listed_root l.roots) l.version l.rows.items
-    × FirstsBelow l.history (listed_root l.roots) l.version (get nat_cmp l.firsts)
+abbrev pub invariant-loop-root : goal.invariant-loop-root
+invariant-loop-root l =
+    (log : Log) → AreKeptRoots log l.roots
+    → RowsBefore log l.roots l.root-index l.rows.items (get nat_cmp l.firsts)

@@ -13,7 +13,7 @@ returns g c = record {
       (g.S.Shelf.state c.args.shelf.now) (g.S.Shelf.state c.write_closed.new.shelf)
       (c.write_closed.ensures.writes c.args.run (record {
         closes = record { closes = c.in-Ok.ensures.closes; is_end = c.in-Ok.ensures.is_end };
-        roots = c.in-Ok.ensures.roots;
+        report = c.in-Ok.ensures.report;
         numbers = c.in-Ok.ensures.numbers;
       })));
 }

@@ -3,7 +3,7 @@ use Rattle.node_words.specs.Plans.{Layout}
 use Rattle.conformance.specs.sessions.Ran.{ClosesWorld}
 use Rattle.conformance.specs.sessions.SessionViews.{SessionView}
 use Rattle.world_run.specs.Open.{saved_seen}
-use Rattle.world_run.proofs.EndLaws.{ran_ends, ran_numbers, ran_or_had, ran_roots}
+use Rattle.world_run.proofs.EndLaws.{ran_ends, ran_numbers, ran_or_had, ran_tells}
 use Rattle.world_run.proofs.endings.close_over.Goals as goal
 
 pub returns-in-Ok-clause-is_end : goal.returns-in-Ok-clause-is_end
@@ -14,13 +14,13 @@ returns-in-Ok-clause-is_end g c =
     (let a = c.root_level.ensures.bounds.1 in let b = c.side.ensures.value in let e = ap
     (λ (p : Layout). p.side) c.plan.ensures.value in omega arith) c.in-Ok.ensures.ends c.args.world.tint c.in-Ok.ensures.closes.coloured c.told.result c.told.ensures.ended
 
-pub returns-in-Ok-clause-roots : goal.returns-in-Ok-clause-roots
-returns-in-Ok-clause-roots g c =
-    ran_roots c.args.world.table c.in-Ok.ended
+pub returns-in-Ok-clause-report : goal.returns-in-Ok-clause-report
+returns-in-Ok-clause-report g c =
+    ran_tells c.args.world.table c.in-Ok.ended
     (let a = c.root_level.ensures.bounds.0 in let b = c.side.ensures.value in let e = ap
     (λ (p : Layout). p.side) c.plan.ensures.value in omega arith)
     (let a = c.root_level.ensures.bounds.1 in let b = c.side.ensures.value in let e = ap
-    (λ (p : Layout). p.side) c.plan.ensures.value in omega arith) c.in-Ok.ensures.ends c.told.result c.told.ensures.ended c.told.ensures.roots
+    (λ (p : Layout). p.side) c.plan.ensures.value in omega arith) c.in-Ok.ensures.ends c.told.result c.told.ensures.ended
 
 pub returns-in-Ok-clause-numbers : goal.returns-in-Ok-clause-numbers
 returns-in-Ok-clause-numbers g c =

@@ -1,7 +1,7 @@
 use Rattle.std.proofs.Common.{◌∙◌, ap, rules, sym, subst}
 use Rattle.node_table.specs.Closing.{EndsTable, HadEnough}
 use Rattle.node_table.specs.TableStates.{TableState}
-use Rattle.node_table.specs.declared.closed.Closed.{Closed}
+use Rattle.node_table.specs.Closed.{Closed}
 use Rattle.conformance.specs.sessions.Ran.{ClosesWorld}
 use Rattle.conformance.specs.sessions.SessionViews.{MayTint}
 use Rattle.session.specs.Closes.{CountsLive, coloured_as, session_views}
