@@ -49,10 +49,10 @@ return count;
 """
 # The colour of a button.
 COLOUR = "return getComputedStyle(arguments[0]).backgroundColor.match(/\\d+/g).map(Number)"
-# Takes the picture's memory away, as a browser does where the graphics processor failed, and gives it back.
+# Takes the picture's memory away, as a browser does where the graphics processor failed; it has `give` to give it back.
 LOSE = """
 const canvas = document.getElementById("world"), memory = canvas.getContext("webgl2").getExtension("WEBGL_lose_context");
-canvas.addEventListener("webglcontextlost", () => setTimeout(() => memory.restoreContext(), 100), { once: true });
+canvas.addEventListener("webglcontextlost", () => (window.give = () => memory.restoreContext()), { once: true });
 memory.loseContext();
 """
 # The picture as it is now was handed on to be shown.
@@ -261,11 +261,13 @@ def tints(server: Editor, ann: Page, bo: Page) -> None:
 
 
 def lost_picture(page: Page) -> None:
+    """A picture whose memory the browser took away is drawn again once it is given back."""
     page.rests()
     before = page.points()
     page.driver.execute_script(LOSE)
-    came = page.points()
-    told("a picture that is lost is drawn again", came == 0 and until(lambda: page.points() > before * 0.9), [before, came, page.points()])
+    is_lost = until(lambda: page.driver.execute_script("return window.give !== undefined")) and page.points() == 0
+    page.driver.execute_script("window.give()")
+    told("a picture that is lost is drawn again", is_lost and until(lambda: page.points() > before * 0.9), [before, is_lost, page.points()])
 
 
 def after_a_kill(server: Editor, ann: Page) -> None:
