@@ -231,7 +231,8 @@ class Server:
     async def _socket(self, request: web.Request) -> web.StreamResponse:
         if len(self.room.people) >= self.words.people:
             raise Refusal("full_house", f"{self.words.people} people are here")
-        socket = web.WebSocketResponse(max_msg_size=MOST_FRAME, heartbeat=60)
+        # What is told to all would be compressed for each of them anew.
+        socket = web.WebSocketResponse(max_msg_size=MOST_FRAME, heartbeat=60, compress=False)
         await socket.prepare(request)
         person = Person(socket, self.words.rate)
         self.room.enter(person)
