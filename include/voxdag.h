@@ -1,8 +1,9 @@
 /* voxdag.h: a proved voxel world with versions, for C and C++.
  *
- * A world is a cube of SIDE cells on each axis, each of them set or clear. Every change that is
- * accepted makes a version; version 0 is the empty world, and any version can be asked until it is
- * forgotten. Coordinates count cells; z is up. docs/LIBRARY.md says how to build and link.
+ * A world is a cube of SIDE cells on each axis, each of them set or clear; in a world with tints a
+ * set cell has one of 255. Every change that is accepted makes a version; version 0 is the empty
+ * world, and any version can be asked until it is forgotten. Coordinates count cells; z is up.
+ * docs/LIBRARY.md says how to build and link.
  *
  * OWNERSHIP. A voxdag_world is a struct that the caller owns: begin with VOXDAG_CLOSED, hand its
  * address to every call, and read and write none of its fields. Don't copy it, and close it before
@@ -20,8 +21,8 @@
  * none.
  *
  * MEMORY. A world takes all memory of its store when it is opened (docs/LIBRARY.md says how much).
- * Opening, any change, saving, surfaces, regions and the journal may answer VOXDAG_NO_MEMORY at any
- * time, and then nothing changed: that memory is there is nothing a library can promise. Closing,
+ * Opening, any change, saving, surfaces, regions, the journal and the file of versions may answer
+ * VOXDAG_NO_MEMORY at any time, and then nothing changed: that memory is there is nothing a library can promise. Closing,
  * forgetting and questions never do. No call ends the program, waits or prints. malloc, realloc and free are those
  * of the program: of one allocator, and aligned as C asks.
  *
@@ -63,7 +64,8 @@ enum {
     VOXDAG_NULL = 17,           /* an argument is null */
     VOXDAG_BAD_JOURNAL = 18,    /* no journal: the first line that doesn't fit is told */
     VOXDAG_NOT_LEGAL = 19,      /* a record of the journal breaks a rule: its line is told */
-    VOXDAG_OTHER_KIND = 20      /* the journal is of a world with tints */
+    VOXDAG_OTHER_KIND = 20,     /* a call for worlds with tints where cells have none, or the reverse */
+    VOXDAG_BAD_TINT = 21        /* a tint isn't from 1 to 255 */
 };
 
 /* All bytes 0: no world is open. */
@@ -90,16 +92,17 @@ typedef struct voxdag_shown { uint8_t x, y, z, tint, sides; } voxdag_shown;
 
 /* How a world is opened. What is 0 is as usual. */
 typedef struct voxdag_plan {
-    uint32_t side;  /* 4, 8, 16, .., 4096 */
+    uint32_t side;  /* 4, 8, 16, .., 4096, and with tints 1024 at most */
     uint32_t cap;   /* how many nodes a bucket of the store has room for, 1 to 256; 0: 128 */
     uint32_t keep;  /* how many of the last versions are kept, as by `voxdag run --keep`; 0: all */
-    uint32_t tints; /* 0 */
+    uint32_t tints; /* 0: cells are set or clear; 1: set cells have tints */
 } voxdag_plan;
 
 /* What the library exports. These test all but null, and a bool that they are given is 0 or 1: call
  * the functions below. */
 voxdag_status voxdag_c_open(voxdag_world *w, uint32_t side, uint16_t cap, const uint8_t *file, size_t size);
-voxdag_status voxdag_c_open_as(voxdag_world *w, uint32_t side, uint16_t cap, uint32_t keep, const uint8_t *file, size_t size);
+voxdag_status voxdag_c_open_as(voxdag_world *w, uint32_t side, uint16_t cap, uint32_t keep, bool tint,
+                               const uint8_t *file, size_t size);
 voxdag_status voxdag_c_open_journal(voxdag_world *w, uint16_t cap, uint32_t keep, const uint8_t *file, size_t size,
                                     const uint8_t *journal, size_t length, uint32_t *line);
 voxdag_status voxdag_c_close(voxdag_world *w);
@@ -107,14 +110,18 @@ voxdag_status voxdag_c_fill(voxdag_world *w, const voxdag_box *part);
 voxdag_status voxdag_c_erase(voxdag_world *w, const voxdag_box *part);
 voxdag_status voxdag_c_ball(voxdag_world *w, const voxdag_place *centre, uint32_t radius);
 voxdag_status voxdag_c_carve(voxdag_world *w, const voxdag_place *centre, uint32_t radius);
+voxdag_status voxdag_c_fill_tint(voxdag_world *w, const voxdag_box *part, uint32_t tint);
+voxdag_status voxdag_c_ball_tint(voxdag_world *w, const voxdag_place *centre, uint32_t radius, uint32_t tint);
 voxdag_status voxdag_c_copy(voxdag_world *w, const voxdag_box *part, const voxdag_place *to);
 voxdag_status voxdag_c_stamp(voxdag_world *w, uint16_t model, const voxdag_place *at);
 voxdag_status voxdag_c_undo(voxdag_world *w);
 voxdag_status voxdag_c_redo(voxdag_world *w);
 voxdag_status voxdag_c_forget(voxdag_world *w, uint32_t version);
 voxdag_status voxdag_c_newest(voxdag_world *w, uint32_t *version);
+voxdag_status voxdag_c_about(voxdag_world *w, voxdag_plan *plan);
 voxdag_status voxdag_c_model_size(voxdag_world *w, uint16_t model, voxdag_place *size);
 voxdag_status voxdag_c_get(voxdag_world *w, uint32_t version, const voxdag_place *at, bool *set);
+voxdag_status voxdag_c_colour(voxdag_world *w, uint32_t version, const voxdag_place *at, uint8_t *tint);
 voxdag_status voxdag_c_count(voxdag_world *w, uint32_t version, const voxdag_box *part, uint64_t *cells);
 voxdag_status voxdag_c_faces(voxdag_world *w, uint32_t version, const voxdag_box *part, uint64_t *faces);
 voxdag_status voxdag_c_bounds(voxdag_world *w, uint32_t version, bool *some, voxdag_box *least);
@@ -123,6 +130,7 @@ voxdag_status voxdag_c_ray(voxdag_world *w, uint32_t version, const voxdag_place
 voxdag_status voxdag_c_same(voxdag_world *w, uint32_t a, uint32_t b, bool *same);
 voxdag_status voxdag_c_save(voxdag_world *w, uint32_t version, const voxdag_box *part, uint8_t *out, size_t size, size_t *needed);
 voxdag_status voxdag_c_journal(voxdag_world *w, uint8_t *out, size_t size, size_t *needed);
+voxdag_status voxdag_c_dag(voxdag_world *w, uint8_t *out, size_t size, size_t *needed);
 voxdag_status voxdag_c_changes(voxdag_world *w, uint32_t a, uint32_t b, bool *some, voxdag_box *least);
 voxdag_status voxdag_c_surface(voxdag_world *w, uint32_t version, const voxdag_box *part, voxdag_shown *out, size_t room,
                                size_t *needed);
@@ -154,26 +162,26 @@ static inline voxdag_status voxdag_open(voxdag_world *w, uint32_t side)
 }
 
 /* The same by a plan. With plan->keep, each change that is made forgets the version that then falls
- * out of so many last ones, unless it is forgotten already. BAD_PLAN also where tints isn't 0. */
+ * out of so many last ones, unless it is forgotten already. BAD_PLAN also where tints is neither 0
+ * nor 1, and where it is 1 and the side over 1,024. */
 static inline voxdag_status voxdag_open_as(voxdag_world *w, const voxdag_plan *plan, const uint8_t *file, size_t size)
 {
     static const uint8_t none = 0;
     if (!w || !plan || (!file && size)) return VOXDAG_NULL;
     if (w->is_open) return VOXDAG_IS_OPEN;
-    if (plan->cap > 256 || plan->tints) return VOXDAG_BAD_PLAN;
-    return voxdag_c_open_as(w, plan->side, (uint16_t)plan->cap, plan->keep, file ? file : &none, size);
+    if (plan->cap > 256 || plan->tints > 1) return VOXDAG_BAD_PLAN;
+    return voxdag_c_open_as(w, plan->side, (uint16_t)plan->cap, plan->keep, plan->tints == 1, file ? file : &none, size);
 }
 
 /* Opens the world that stands behind a journal, as when its last command was done: with its versions
  * and forgotten versions, and with what can be undone and redone. voxdag_journal gives its bytes
- * again. The side is the journal's, and plan->side isn't looked at; plan->keep counts from the next
- * change on. file and size as above: the models that the journal stamps. A journal that `voxdag run`
- * wrote will do as well.
+ * again. Side and tints are the journal's: plan->side and plan->tints aren't looked at; plan->keep
+ * counts from the next change on. file and size as above: the models that the journal stamps. A
+ * journal that `voxdag run` wrote will do as well.
  *   IS_OPEN      exactly where w has a world already
- *   BAD_PLAN     exactly where no bucket has this cap, or tints isn't 0
+ *   BAD_PLAN     exactly where no bucket has this cap
  *   BAD_FILE     a rule of VOX files is broken, or size is over 2^28
  *   BAD_JOURNAL  *line: the first line that doesn't fit, from 1
- *   OTHER_KIND   the journal is of a world with tints
  *   NOT_LEGAL    *line: that of the first record whose act leaves the world or stamps no model, or
  *                which is an undo or a redo with no version to go to, or with a forgotten one
  *   STORE_FULL   a bucket has no room for what a record needs
@@ -184,7 +192,7 @@ static inline voxdag_status voxdag_open_journal(voxdag_world *w, const voxdag_pl
     static const uint8_t none = 0;
     if (!w || !plan || !line || (!file && size) || (!journal && length)) return VOXDAG_NULL;
     if (w->is_open) return VOXDAG_IS_OPEN;
-    if (plan->cap > 256 || plan->tints) return VOXDAG_BAD_PLAN;
+    if (plan->cap > 256) return VOXDAG_BAD_PLAN;
     return voxdag_c_open_journal(w, (uint16_t)plan->cap, plan->keep, file ? file : &none, size, journal ? journal : &none, length, line);
 }
 
@@ -208,7 +216,8 @@ static inline voxdag_status voxdag_close(voxdag_world *w)
  *                  Never at an undo or a redo
  *   HISTORY_FULL   only where there are 65,535 records already, and there OK never comes */
 
-/* Sets, or clears, the cells of a box that lies in the world. */
+/* Sets, or clears, the cells of a box that lies in the world. In a world with tints what is set by
+ * this and by voxdag_ball has tint 1. */
 static inline voxdag_status voxdag_fill(voxdag_world *w, const voxdag_box *part)
 {
     if (!w || !part) return VOXDAG_NULL;
@@ -235,8 +244,23 @@ static inline voxdag_status voxdag_carve(voxdag_world *w, const voxdag_place *ce
     return voxdag_c_carve(w, centre, radius);
 }
 
-/* Puts the cells of a box, set and clear ones, where its least corner goes to `to`. Both boxes lie
- * in the world, and may overlap: what is put is what the box had before. */
+/* Gives the cells of a box, or of a ball, a tint from 1 to 255. Before OUTSIDE come
+ *   OTHER_KIND   exactly where the world has no tints
+ *   BAD_TINT     exactly where it has, and the number is no tint */
+static inline voxdag_status voxdag_fill_tint(voxdag_world *w, const voxdag_box *part, uint32_t tint)
+{
+    if (!w || !part) return VOXDAG_NULL;
+    return voxdag_c_fill_tint(w, part, tint);
+}
+
+static inline voxdag_status voxdag_ball_tint(voxdag_world *w, const voxdag_place *centre, uint32_t radius, uint32_t tint)
+{
+    if (!w || !centre) return VOXDAG_NULL;
+    return voxdag_c_ball_tint(w, centre, radius, tint);
+}
+
+/* Puts the cells of a box, set and clear ones with their tint, where its least corner goes to `to`.
+ * Both boxes lie in the world, and may overlap: what is put is what the box had before. */
 static inline voxdag_status voxdag_copy(voxdag_world *w, const voxdag_box *part, const voxdag_place *to)
 {
     if (!w || !part || !to) return VOXDAG_NULL;
@@ -283,6 +307,7 @@ static inline voxdag_status voxdag_forget(voxdag_world *w, uint32_t version)
  * They change nothing. With OK, and with OK alone, the outputs are written. Which status comes is
  * told by the arguments and the world: the first of these whose cause is there, and else OK.
  *   IS_CLOSED    no world is open
+ *   OTHER_KIND   a call says that it is for the other kind of world
  *   OUTSIDE      the place or box leaves the world
  *   BAD_WAY      the steps of a ray are none
  *   NO_VERSION   the version is above the newest one (of two: the first one's status comes first)
@@ -293,6 +318,14 @@ static inline voxdag_status voxdag_newest(voxdag_world *w, uint32_t *version)
 {
     if (!w || !version) return VOXDAG_NULL;
     return voxdag_c_newest(w, version);
+}
+
+/* How the world is open: its side, its cap as a number from 1 to 256, how many versions it keeps, and
+ * whether its cells have tints. */
+static inline voxdag_status voxdag_about(voxdag_world *w, voxdag_plan *plan)
+{
+    if (!w || !plan) return VOXDAG_NULL;
+    return voxdag_c_about(w, plan);
 }
 
 /* The size of a model. NO_MODEL exactly where there is none of this number, counted from 0. */
@@ -311,6 +344,13 @@ static inline voxdag_status voxdag_get(voxdag_world *w, uint32_t version, const 
     status = voxdag_c_get(w, version, at, &is);
     if (!status) *set = is;
     return status;
+}
+
+/* The tint of the cell, 0 where it is clear. OTHER_KIND exactly where the world has no tints. */
+static inline voxdag_status voxdag_colour(voxdag_world *w, uint32_t version, const voxdag_place *at, uint8_t *tint)
+{
+    if (!w || !at || !tint) return VOXDAG_NULL;
+    return voxdag_c_colour(w, version, at, tint);
 }
 
 /* How many cells of the box are set. */
@@ -359,7 +399,7 @@ static inline voxdag_status voxdag_ray(voxdag_world *w, uint32_t version, const 
     return status;
 }
 
-/* Whether two versions have the same cells. */
+/* Whether two versions have the same cells, and in a world with tints the same tints. */
 static inline voxdag_status voxdag_same(voxdag_world *w, uint32_t a, uint32_t b, bool *same)
 {
     bool is = false;
@@ -371,7 +411,8 @@ static inline voxdag_status voxdag_same(voxdag_world *w, uint32_t a, uint32_t b,
 }
 
 /* The least box of all cells that one of two versions has and the other hasn't. *some: whether there
- * are any; where not, *least stays. The two versions come in any order. */
+ * are any; where not, *least stays. The two versions come in any order. OTHER_KIND exactly where the
+ * world has tints. */
 static inline voxdag_status voxdag_changes(voxdag_world *w, uint32_t a, uint32_t b, bool *some, voxdag_box *least)
 {
     bool are = false;
@@ -391,7 +432,8 @@ static inline voxdag_status voxdag_changes(voxdag_world *w, uint32_t a, uint32_t
  *   NO_MEMORY   at any time; out and *needed stay */
 
 /* The VOX file of a box of a version, with one model of the box's size, at most 256 on each axis
- * (OUTSIDE where it is more). IS_CLOSED, OUTSIDE, NO_VERSION and FORGOTTEN as of questions. */
+ * (OUTSIDE where it is more): each cell has its tint as its colour, and 1 where cells have none.
+ * IS_CLOSED, OUTSIDE, NO_VERSION and FORGOTTEN as of questions. */
 static inline voxdag_status voxdag_save(voxdag_world *w, uint32_t version, const voxdag_box *part, uint8_t *out, size_t size,
                                         size_t *needed)
 {
@@ -402,7 +444,8 @@ static inline voxdag_status voxdag_save(voxdag_world *w, uint32_t version, const
 
 /* The set cells of a box of a version that have an unset cell or the world's outside beside them, by
  * rising z, then y, then x. Here *needed and `room` count cells. The box has at most 256 on each axis
- * (OUTSIDE where it is more). IS_CLOSED, OUTSIDE, NO_VERSION and FORGOTTEN as of questions. */
+ * (OUTSIDE where it is more). OTHER_KIND exactly where the world has tints. IS_CLOSED, OUTSIDE,
+ * NO_VERSION and FORGOTTEN as of questions. */
 static inline voxdag_status voxdag_surface(voxdag_world *w, uint32_t version, const voxdag_box *part, voxdag_shown *out, size_t room,
                                            size_t *needed)
 {
@@ -414,7 +457,8 @@ static inline voxdag_status voxdag_surface(voxdag_world *w, uint32_t version, co
 /* The cells of a box of a version that ways through its clear cells join with `from`, a cell of the
  * box: *cells is how many, with OK and with TOO_SMALL, and the VOX file has them as its one model's,
  * of the box's size: at most 256 on each axis (OUTSIDE where it is more). None where that cell is set.
- * IS_CLOSED, OUTSIDE, NO_VERSION and FORGOTTEN as of questions. */
+ * OTHER_KIND exactly where the world has tints. IS_CLOSED, OUTSIDE, NO_VERSION and FORGOTTEN as of
+ * questions. */
 static inline voxdag_status voxdag_flood(voxdag_world *w, uint32_t version, const voxdag_box *part, const voxdag_place *from,
                                          uint64_t *cells, uint8_t *out, size_t size, size_t *needed)
 {
@@ -431,6 +475,15 @@ static inline voxdag_status voxdag_journal(voxdag_world *w, uint8_t *out, size_t
     uint8_t none = 0;
     if (!w || !needed || (!out && size)) return VOXDAG_NULL;
     return voxdag_c_journal(w, out ? out : &none, size, needed);
+}
+
+/* The file of all versions that aren't forgotten (docs/DAG_FILES.md): the bytes that `voxdag dag` makes
+ * of the world's journal, as no other file has these versions. */
+static inline voxdag_status voxdag_dag(voxdag_world *w, uint8_t *out, size_t size, size_t *needed)
+{
+    uint8_t none = 0;
+    if (!w || !needed || (!out && size)) return VOXDAG_NULL;
+    return voxdag_c_dag(w, out ? out : &none, size, needed);
 }
 
 #ifdef __cplusplus

@@ -6,7 +6,9 @@ legal at that record's line, n + 2. A file that breaks a rule is refused with st
 version that it hasn't, and a place outside its worlds, with status 10.
 """
 
+import pathlib
 import struct
+import sys
 from random import Random
 
 import audits
@@ -18,26 +20,14 @@ from model import Cell, History, Record, told
 from product import Product, want
 from texts import BadLine, SIDES, command, read_journal, read_transcript, spelled
 
+# The blocks of a world are those of the slow world, which is installed without this folder.
+sys.path.insert(0, str(pathlib.Path(__file__).resolve().parent.parent / "bindings/python"))
+from voxdag.slow import block_rows
+
 Row = tuple[int, ...]
 
 
 # ---- the slow writer
-
-def block_rows(cells: set[Cell], side: int) -> list[dict[Cell, tuple]]:
-    """Of each level from 0 up the block at each place that has set cells: a leaf's bits, or the eight blocks below."""
-    leaves: dict[Cell, int] = {}
-    for x, y, z in cells:
-        place = (x // 4, y // 4, z // 4)
-        leaves[place] = leaves.get(place, 0) | 1 << (x % 4 + 4 * (y % 4) + 16 * (z % 4))
-    levels: list[dict[Cell, tuple]] = [{place: (bits,) for place, bits in leaves.items()}]
-    while side > 4:
-        side //= 2
-        above: dict[Cell, list] = {}
-        for (x, y, z), block in levels[-1].items():
-            above.setdefault((x // 2, y // 2, z // 2), [None] * 8)[x % 2 + 2 * (y % 2) + 4 * (z % 2)] = block
-        levels.append({place: tuple(octants) for place, octants in above.items()})
-    return levels
-
 
 def file_of(side: int, versions: list[tuple[int, set[Cell]]]) -> bytes:
     """The file of versions, each with its number and the set cells of its store."""

@@ -27,7 +27,7 @@ void *__wrap_realloc(void *old, size_t size)
 static const voxdag_box part = {{0, 0, 0}, {8, 8, 8}};
 static const voxdag_place far = {7, 7, 7};
 
-/* Opens, fills, saves and shows with the nth allocation failing. 0: none failed; 1: told as it should be; 2: wrong. */
+/* Opens, fills, saves, shows and lists versions with the nth allocation failing. 0: none failed; 1: told as it should be; 2: wrong. */
 static int session(long n)
 {
     voxdag_world w = VOXDAG_CLOSED;
@@ -66,6 +66,13 @@ static int session(long n)
         if (cells || needed != 7 || voxdag_flood(&w, 1500, &part, &far, &cells, out, sizeof out, &needed)) return 2;
     } else if (s != VOXDAG_OK) return 2;
     needed = 7;
+    s = voxdag_dag(&w, out, sizeof out, &needed);
+    if (s == VOXDAG_NO_MEMORY) {
+        failed = 1;
+        /* The file has 8 bytes for each of 1,501 versions, and more. */
+        if (needed != 7 || voxdag_dag(&w, out, sizeof out, &needed) != VOXDAG_TOO_SMALL) return 2;
+    } else if (s != VOXDAG_TOO_SMALL) return 2;
+    needed = 7;
     s = voxdag_journal(&w, out, sizeof out, &needed);
     if (s == VOXDAG_NO_MEMORY) {
         failed = 1;
@@ -92,6 +99,32 @@ static int going_on(long n)
     return voxdag_count(&w, 3, &part, &cells) || cells != 512 || voxdag_close(&w) ? 2 : 0;
 }
 
+/* The same of a world with tints, up to the file of a box. */
+static int tinted(long n)
+{
+    const voxdag_plan kind = {16, 0, 0, 1};
+    voxdag_world w = VOXDAG_CLOSED;
+    static uint8_t out[4096];
+    size_t needed = 7;
+    int failed = 0;
+    left = n;
+    voxdag_status s = voxdag_open_as(&w, &kind, NULL, 0);
+    if (s != VOXDAG_OK) return s == VOXDAG_NO_MEMORY && voxdag_close(&w) == VOXDAG_IS_CLOSED ? 1 : 2;
+    s = voxdag_fill_tint(&w, &part, 7);
+    if (s == VOXDAG_NO_MEMORY) {
+        failed = 1;
+        if (voxdag_fill_tint(&w, &part, 7)) return 2;
+    } else if (s != VOXDAG_OK) return 2;
+    s = voxdag_save(&w, 1, &part, out, sizeof out, &needed);
+    if (s == VOXDAG_NO_MEMORY) {
+        failed = 1;
+        if (needed != 7 || voxdag_save(&w, 1, &part, out, sizeof out, &needed)) return 2;
+    } else if (s != VOXDAG_OK) return 2;
+    left = -1;
+    /* 8 x 8 x 8 cells of four bytes behind the 60 of what comes first, each with its tint as its last byte. */
+    return needed != 60 + 4 * 512 || out[63] != 7 || voxdag_close(&w) ? 2 : failed;
+}
+
 int main(void)
 {
     long n = 0, told;
@@ -101,6 +134,10 @@ int main(void)
     long m = 0;
     while ((told = going_on(m)) == 1) m++;
     if (told) printf("memory: allocation %ld of a journal is wrongly told\n", m);
-    else printf("memory: %ld allocations failed in turn\n", n + m);
-    return told != 0 || m < 5;
+    if (told || m < 5) return 1;
+    long k = 0;
+    while ((told = tinted(k)) == 1) k++;
+    if (told) printf("memory: allocation %ld of a world with tints is wrongly told\n", k);
+    else printf("memory: %ld allocations failed in turn\n", n + m + k);
+    return told != 0 || k < 5;
 }

@@ -40,6 +40,7 @@ static int nulls(voxdag_world *w)
     size_t needed = 7;
     uint8_t out[8] = {0};
     voxdag_shown seen[2] = {{7, 7, 7, 7, 7}, {7, 7, 7, 7, 7}};
+    voxdag_plan plan = {7, 7, 7, 7};
     voxdag_place p = in;
     voxdag_box b = good;
     SAYS(VOXDAG_NULL, voxdag_open(NULL, 64));
@@ -69,6 +70,8 @@ static int nulls(voxdag_world *w)
     SAYS(VOXDAG_NULL, voxdag_flood(NULL, 0, &b, &p, &n, out, 8, &needed)); SAYS(VOXDAG_NULL, voxdag_flood(w, 0, NULL, &p, &n, out, 8, &needed));
     SAYS(VOXDAG_NULL, voxdag_flood(w, 0, &b, NULL, &n, out, 8, &needed)); SAYS(VOXDAG_NULL, voxdag_flood(w, 0, &b, &p, NULL, out, 8, &needed));
     SAYS(VOXDAG_NULL, voxdag_flood(w, 0, &b, &p, &n, NULL, 8, &needed)); SAYS(VOXDAG_NULL, voxdag_flood(w, 0, &b, &p, &n, out, 8, NULL));
+    SAYS(VOXDAG_NULL, voxdag_dag(NULL, out, 8, &needed)); SAYS(VOXDAG_NULL, voxdag_dag(w, NULL, 8, &needed)); SAYS(VOXDAG_NULL, voxdag_dag(w, out, 8, NULL));
+    SAYS(VOXDAG_NULL, voxdag_about(NULL, &plan)); SAYS(VOXDAG_NULL, voxdag_about(w, NULL)); IS(plan.side == 7);
     SAYS(VOXDAG_NULL, voxdag_journal(NULL, out, 8, &needed)); SAYS(VOXDAG_NULL, voxdag_journal(w, NULL, 8, &needed)); SAYS(VOXDAG_NULL, voxdag_journal(w, out, 8, NULL));
     IS(is && v == 7 && n == 7 && needed == 7 && b.size.x == 8 && seen[0].x == 7);
     return 0;
@@ -83,6 +86,7 @@ static int closed(voxdag_world *w)
     size_t needed = 7;
     uint8_t out[8] = {0};
     voxdag_shown seen[2] = {{7, 7, 7, 7, 7}, {7, 7, 7, 7, 7}};
+    voxdag_plan plan = {7, 7, 7, 7};
     voxdag_place p = in, hit = in;
     voxdag_box b = good;
     SAYS(VOXDAG_IS_CLOSED, voxdag_close(w)); SAYS(VOXDAG_IS_CLOSED, voxdag_fill(w, &b)); SAYS(VOXDAG_IS_CLOSED, voxdag_erase(w, &b));
@@ -92,7 +96,8 @@ static int closed(voxdag_world *w)
     SAYS(VOXDAG_IS_CLOSED, voxdag_get(w, 0, &p, &is)); SAYS(VOXDAG_IS_CLOSED, voxdag_count(w, 0, &b, &n)); SAYS(VOXDAG_IS_CLOSED, voxdag_faces(w, 0, &b, &n));
     SAYS(VOXDAG_IS_CLOSED, voxdag_bounds(w, 0, &is, &b)); SAYS(VOXDAG_IS_CLOSED, voxdag_ray(w, 0, &p, 1, 0, 0, &is, &hit));
     SAYS(VOXDAG_IS_CLOSED, voxdag_same(w, 0, 0, &is)); SAYS(VOXDAG_IS_CLOSED, voxdag_save(w, 0, &b, out, 8, &needed));
-    SAYS(VOXDAG_IS_CLOSED, voxdag_journal(w, out, 8, &needed));
+    SAYS(VOXDAG_IS_CLOSED, voxdag_journal(w, out, 8, &needed)); SAYS(VOXDAG_IS_CLOSED, voxdag_dag(w, out, 8, &needed));
+    SAYS(VOXDAG_IS_CLOSED, voxdag_about(w, &plan)); IS(plan.side == 7 && plan.cap == 7 && plan.keep == 7 && plan.tints == 7);
     SAYS(VOXDAG_IS_CLOSED, voxdag_changes(w, 0, 0, &is, &b)); SAYS(VOXDAG_IS_CLOSED, voxdag_surface(w, 0, &b, seen, 2, &needed));
     SAYS(VOXDAG_IS_CLOSED, voxdag_flood(w, 0, &b, &p, &n, out, 8, &needed));
     IS(seen[0].x == 7 && seen[1].sides == 7);
@@ -230,6 +235,40 @@ static int bytes(voxdag_world *w, uint32_t version)
     return 0;
 }
 
+/* The file of versions 0 and 2 of a world of side 8, where version 1 is forgotten, by its bytes; and what the world is. */
+static int versions(void)
+{
+    static const uint8_t file[] = {
+        'V', 'D', 'A', 'G', 1, 0, 0, 0, 8, 0, 0, 0, 2, 0, 0, 0, 1, 0, 0, 0, 1, 0, 0, 0, /* side 8, two versions, one leaf, one node */
+        3, 0, 0, 0, 0, 0, 0, 0, /* the leaf of the cells 0 and 1 of a row */
+        1, 0, 0, 0, 0, 0, 0, 0, 0, 0, 0, 0, 0, 0, 0, 0, 0, 0, 0, 0, 0, 0, 0, 0, 0, 0, 0, 0, 0, 0, 0, 0, /* it alone, in the first octant */
+        0, 0, 0, 0, 0, 0, 0, 0, 2, 0, 0, 0, 1, 0, 0, 0, /* version 0 has nothing, version 2 the node */
+    };
+    const voxdag_plan by = {8, 5, 3, 0};
+    voxdag_plan plan = {7, 7, 7, 7};
+    voxdag_world w = VOXDAG_CLOSED;
+    const voxdag_box one = {{0, 0, 0}, {1, 1, 1}}, two = {{0, 0, 0}, {2, 1, 1}};
+    uint8_t out[96];
+    size_t needed = 0, again = 0;
+    memset(out, 9, sizeof out);
+    SAYS(VOXDAG_OK, voxdag_open_as(&w, &by, NULL, 0)); SAYS(VOXDAG_OK, voxdag_about(&w, &plan));
+    IS(plan.side == 8 && plan.cap == 5 && plan.keep == 3 && plan.tints == 0);
+    SAYS(VOXDAG_OK, voxdag_fill(&w, &one)); SAYS(VOXDAG_OK, voxdag_fill(&w, &two)); SAYS(VOXDAG_OK, voxdag_forget(&w, 1));
+    SAYS(VOXDAG_TOO_SMALL, voxdag_dag(&w, NULL, 0, &needed)); IS(needed == sizeof file);
+    SAYS(VOXDAG_TOO_SMALL, voxdag_dag(&w, out, sizeof file - 1, &again)); IS(again == sizeof file && out[0] == 9);
+    SAYS(VOXDAG_OK, voxdag_dag(&w, out, sizeof out, &again)); IS(again == sizeof file && !memcmp(out, file, sizeof file));
+    for (size_t k = sizeof file; k < sizeof out; k++) IS(out[k] == 9);
+    /* The world goes on, with its roots in their places: the same file again, and an undo. */
+    SAYS(VOXDAG_OK, voxdag_dag(&w, out, sizeof out, &again)); IS(again == sizeof file && !memcmp(out, file, sizeof file));
+    SAYS(VOXDAG_FORGOTTEN, voxdag_undo(&w)); SAYS(VOXDAG_OK, voxdag_fill(&w, &good)); SAYS(VOXDAG_OK, voxdag_undo(&w));
+    bool is = false;
+    SAYS(VOXDAG_OK, voxdag_same(&w, 2, 4, &is)); IS(is);
+    SAYS(VOXDAG_OK, voxdag_close(&w));
+    SAYS(VOXDAG_OK, voxdag_open(&w, 4096)); SAYS(VOXDAG_OK, voxdag_about(&w, &plan)); IS(plan.side == 4096 && plan.cap == 128 && !plan.keep && !plan.tints);
+    SAYS(VOXDAG_OK, voxdag_close(&w));
+    return 0;
+}
+
 /* A journal that is gone on with, and what is wrong with others: each with the status and the line that it is told by. */
 static int journals(void)
 {
@@ -241,9 +280,11 @@ static int journals(void)
         {HEAD, VOXDAG_BAD_JOURNAL, 3}, {HEAD "2 0 1 fill 0 0 0 8 8 8\nend\n", VOXDAG_BAD_JOURNAL, 3}, {HEAD ONE "end", VOXDAG_BAD_JOURNAL, 4},
         {HEAD ONE "mark 1 1 0 2\nend\n", VOXDAG_BAD_JOURNAL, 4}, {HEAD ONE "end\n\n", VOXDAG_BAD_JOURNAL, 5},
         {HEAD "1 0 1 undo\nend\n", VOXDAG_NOT_LEGAL, 3}, {HEAD ONE "2 0 2 redo\nend\n", VOXDAG_NOT_LEGAL, 4}, {HEAD "1 0 1 stamp 0 0 0 0\nend\n", VOXDAG_NOT_LEGAL, 3},
-        {HEAD ONE "2 0 3 undo\nmark 0 1 0 2\nend\n", VOXDAG_NOT_LEGAL, 4}, {"voxdag journal 2\nside 16\nend\n", VOXDAG_OTHER_KIND, 77},
+        {HEAD ONE "2 0 3 undo\nmark 0 1 0 2\nend\n", VOXDAG_NOT_LEGAL, 4}, {"voxdag journal 2\nside 16\nend\n", VOXDAG_OK, 77},
+        {"voxdag journal 2\nside 16\n1 0 1 fill 0 0 0 2 2 2 7\nend\n", VOXDAG_OK, 77},
     };
-    const voxdag_plan usual = {0, 0, 0, 0}, caps[] = {{64, 257, 0, 0}, {64, UINT32_MAX, 0, 0}, {64, 0, 0, 1}};
+    const voxdag_plan usual = {0, 0, 0, 0}, caps[] = {{64, 257, 0, 0}, {64, UINT32_MAX, 0, 0}};
+    const voxdag_plan kinds[] = {{64, 0, 0, 2}, {64, 0, 0, UINT32_MAX}, {2048, 0, 0, 1}, {4096, 0, 0, 1}, {2, 0, 0, 1}};
     const uint8_t *good_one = (const uint8_t *)rows[1].text;
     const size_t length = strlen(rows[1].text);
     uint8_t broken[] = "VOX \226\0\0\0MAIM", out[256];
@@ -259,6 +300,7 @@ static int journals(void)
     }
     line = 77;
     for (size_t k = 0; k < NUMBER(caps); k++) SAYS(VOXDAG_BAD_PLAN, voxdag_open_as(&w, &caps[k], NULL, 0));
+    for (size_t k = 0; k < NUMBER(kinds); k++) SAYS(VOXDAG_BAD_PLAN, voxdag_open_as(&w, &kinds[k], NULL, 0));
     for (size_t k = 0; k < NUMBER(caps); k++) SAYS(VOXDAG_BAD_PLAN, voxdag_open_journal(&w, &caps[k], broken, 5, NULL, 0, &line));
     SAYS(VOXDAG_BAD_FILE, voxdag_open_journal(&w, &usual, broken, 5, NULL, 0, &line));
     SAYS(VOXDAG_NULL, voxdag_open_journal(NULL, &usual, NULL, 0, good_one, length, &line)); SAYS(VOXDAG_NULL, voxdag_open_journal(&w, NULL, NULL, 0, good_one, length, &line));
@@ -297,6 +339,48 @@ static int keeping(void)
     SAYS(VOXDAG_OK, voxdag_open_journal(&w, &two, NULL, 0, (const uint8_t *)before, sizeof before - 1, &line)); IS(line == 77);
     SAYS(VOXDAG_OK, voxdag_count(&w, 2, &all, &n)); SAYS(VOXDAG_OK, voxdag_fill(&w, &all)); SAYS(VOXDAG_FORGOTTEN, voxdag_count(&w, 2, &all, &n));
     SAYS(VOXDAG_OK, voxdag_journal(&w, out, sizeof out, &needed)); IS(needed == sizeof after - 1 && !memcmp(out, after, needed));
+    SAYS(VOXDAG_OK, voxdag_close(&w));
+    return 0;
+}
+
+/* A world with tints, and what the other kind of world says to its calls. */
+static int tints(void)
+{
+    const voxdag_plan kind = {16, 0, 0, 1};
+    const uint32_t none[] = {0, 256, 257, UINT32_MAX};
+    voxdag_world w = VOXDAG_CLOSED;
+    voxdag_box all = {{0, 0, 0}, {16, 16, 16}}, part = {{0, 0, 0}, {2, 2, 2}}, far = {{15, 0, 0}, {2, 1, 1}}, least;
+    voxdag_place in = {1, 1, 1}, outside = {16, 0, 0};
+    voxdag_shown seen[8];
+    uint8_t tint = 99, out[128];
+    uint64_t n = 0;
+    size_t needed = 0;
+    bool same = false;
+    SAYS(VOXDAG_IS_CLOSED, voxdag_fill_tint(&w, &part, 0)); SAYS(VOXDAG_IS_CLOSED, voxdag_ball_tint(&w, &in, 0, 1)); SAYS(VOXDAG_IS_CLOSED, voxdag_colour(&w, 0, &in, &tint));
+    SAYS(VOXDAG_NULL, voxdag_fill_tint(NULL, &part, 1)); SAYS(VOXDAG_NULL, voxdag_fill_tint(&w, NULL, 1)); SAYS(VOXDAG_NULL, voxdag_ball_tint(NULL, &in, 0, 1));
+    SAYS(VOXDAG_NULL, voxdag_ball_tint(&w, NULL, 0, 1)); SAYS(VOXDAG_NULL, voxdag_colour(NULL, 0, &in, &tint)); SAYS(VOXDAG_NULL, voxdag_colour(&w, 0, NULL, &tint));
+    SAYS(VOXDAG_NULL, voxdag_colour(&w, 0, &in, NULL));
+    SAYS(VOXDAG_OK, voxdag_open(&w, 16));
+    SAYS(VOXDAG_OTHER_KIND, voxdag_fill_tint(&w, &far, 0)); SAYS(VOXDAG_OTHER_KIND, voxdag_ball_tint(&w, &outside, 0, 1)); SAYS(VOXDAG_OTHER_KIND, voxdag_colour(&w, 9, &outside, &tint));
+    SAYS(VOXDAG_OK, voxdag_close(&w)); IS(tint == 99);
+    SAYS(VOXDAG_OK, voxdag_open_as(&w, &kind, NULL, 0));
+    for (size_t k = 0; k < NUMBER(none); k++) { SAYS(VOXDAG_BAD_TINT, voxdag_fill_tint(&w, &far, none[k])); SAYS(VOXDAG_BAD_TINT, voxdag_ball_tint(&w, &outside, 0, none[k])); }
+    SAYS(VOXDAG_OUTSIDE, voxdag_fill_tint(&w, &far, 7)); SAYS(VOXDAG_OUTSIDE, voxdag_fill(&w, &far)); SAYS(VOXDAG_OUTSIDE, voxdag_ball_tint(&w, &outside, 0, 7));
+    SAYS(VOXDAG_OUTSIDE, voxdag_ball_tint(&w, &in, 4096, 7)); SAYS(VOXDAG_OUTSIDE, voxdag_colour(&w, 9, &outside, &tint)); SAYS(VOXDAG_NO_VERSION, voxdag_colour(&w, 1, &in, &tint));
+    IS(tint == 99);
+    SAYS(VOXDAG_OK, voxdag_fill_tint(&w, &part, 7)); SAYS(VOXDAG_OK, voxdag_colour(&w, 1, &in, &tint)); IS(tint == 7);
+    SAYS(VOXDAG_OK, voxdag_colour(&w, 0, &in, &tint)); IS(tint == 0);
+    SAYS(VOXDAG_OK, voxdag_count(&w, 1, &all, &n)); IS(n == 8);
+    SAYS(VOXDAG_OK, voxdag_save(&w, 1, &part, out, sizeof out, &needed)); IS(needed == 92);
+    for (size_t k = 0; k < 8; k++) IS(out[60 + 4 * k + 3] == 7);
+    SAYS(VOXDAG_OK, voxdag_fill(&w, &part)); SAYS(VOXDAG_OK, voxdag_colour(&w, 2, &in, &tint)); IS(tint == 1);
+    SAYS(VOXDAG_OK, voxdag_fill_tint(&w, &part, 7));
+    same = true; SAYS(VOXDAG_OK, voxdag_same(&w, 1, 2, &same)); IS(!same);
+    SAYS(VOXDAG_OK, voxdag_same(&w, 1, 3, &same)); IS(same);
+    SAYS(VOXDAG_OK, voxdag_ball_tint(&w, &in, 0, 255)); SAYS(VOXDAG_OK, voxdag_colour(&w, 4, &in, &tint)); IS(tint == 255);
+    SAYS(VOXDAG_OK, voxdag_carve(&w, &in, 0)); SAYS(VOXDAG_OK, voxdag_colour(&w, 5, &in, &tint)); IS(tint == 0);
+    SAYS(VOXDAG_OTHER_KIND, voxdag_changes(&w, 9, 9, &same, &least)); SAYS(VOXDAG_OTHER_KIND, voxdag_surface(&w, 9, &far, seen, 8, &needed));
+    n = 8; SAYS(VOXDAG_OTHER_KIND, voxdag_flood(&w, 9, &far, &in, &n, out, sizeof out, &needed)); IS(n == 8 && needed == 92);
     SAYS(VOXDAG_OK, voxdag_close(&w));
     return 0;
 }
@@ -357,7 +441,7 @@ int main(void)
     uint32_t newest = 0;
     SAYS(VOXDAG_OK, voxdag_newest(&w, &newest)); SAYS(VOXDAG_OK, voxdag_count(&w, newest, &good, &n)); IS(newest > 0 && n > 0);
     SAYS(VOXDAG_OK, voxdag_close(&w));
-    if (journals() || keeping()) return 1;
+    if (versions() || journals() || tints() || keeping()) return 1;
     /* As many fills in buckets of the usual size. */
     SAYS(VOXDAG_OK, voxdag_open(&w, 64));
     for (uint32_t k = 0; k <= newest; k++) {

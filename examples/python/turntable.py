@@ -57,7 +57,7 @@ def png(pictures: list) -> bytes:
 
 
 def main(model: pathlib.Path, out: pathlib.Path) -> None:
-    with voxdag.World(256, tints=voxdag.load().exports("fill_tint"), models=model.read_bytes()) as world:
+    with voxdag.World(256, models=model.read_bytes()) as world:
         version = world.stamp(0, (0, 0, 0))
         size = world.model_size(0)
         cells = [tuple(cell) for cell in memoryview(world.surface(version, (0, 0, 0, *size))).tolist()]

@@ -59,7 +59,7 @@ SIGNATURES: dict[str, list[Any]] = {
     "open_journal": [_P(CPlan), _BYTES, c.c_size_t, _BYTES, c.c_size_t, _P(_N)],
     "open_scene": [_P(CPlan), _BYTES, c.c_size_t, _P(_N)],
     "open_dag": [_BYTES, c.c_size_t],
-    "about": [_P(CPlan), _P(c.c_bool)],
+    "about": [_P(CPlan)],
     "fill_tint": [_P(CBox), _N],
     "ball_tint": [_P(CPlace), _N, _N],
     "colour": [_N, _P(CPlace), _P(c.c_uint8)],

@@ -134,7 +134,7 @@ class World:
         self._begin(side, tints, cap, keep, found)
 
     def _begin(self, side: int, tints: bool, cap: int, keep: int, models: list[tuple[Cell, Cells]]) -> None:
-        self._plan = Plan(side, cap or 128, keep, tints, False)
+        self._plan = Plan(side, cap or 128, keep, tints)
         self._models = models if tints else [(size, dict.fromkeys(cells, 1)) for size, cells in models]
         self._versions: list[Cells] = [{}]
         self._texts: list[str] = []
@@ -484,7 +484,7 @@ class World:
         self._open()
         side = self._plan.side * (4 if self._plan.tints else 1)
         held = [v for v in range(len(self._versions)) if v not in self._marks]
-        trees = [_blocks(self._stored(self._versions[v]), side) for v in held]
+        trees = [block_rows(self._stored(self._versions[v]), side) for v in held]
         words: dict[Any, int] = {None: 0}
         counts, entries = [], b""
         for level in range(side.bit_length() - 2):
@@ -505,7 +505,7 @@ class World:
         return set(cells) | bits
 
 
-def _blocks(cells: set[Cell], side: int) -> list[dict[Cell, tuple]]:
+def block_rows(cells: set[Cell], side: int) -> list[dict[Cell, tuple]]:
     """Of each level from 0 up the block at each place that has set cells: a leaf's bits, or the eight blocks below."""
     leaves: dict[Cell, int] = {}
     for x, y, z in cells:

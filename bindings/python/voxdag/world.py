@@ -37,13 +37,13 @@ class Box(NamedTuple):
 
 
 class Plan(NamedTuple):
-    """How a world was opened."""
+    """How a world is open: its side, how many slots its buckets have, how many versions it keeps, 0 for all, and whether
+    its cells have tints."""
 
     side: int
     cap: int
     keep: int
     tints: bool
-    asked_only: bool
 
 
 class Scene(NamedTuple):
@@ -179,10 +179,10 @@ class World:
 
     @property
     def about(self) -> Plan:
-        """What the world is."""
-        plan, asked_only = CPlan(), c.c_bool()
-        self._call("about", c.byref(plan), c.byref(asked_only))
-        return Plan(plan.side, plan.cap, plan.keep, bool(plan.tints), asked_only.value)
+        """How the world is open."""
+        plan = CPlan()
+        self._call("about", c.byref(plan))
+        return Plan(plan.side, plan.cap, plan.keep, bool(plan.tints))
 
     # ---- changes: each answers the number of the version that it made
 
@@ -296,7 +296,7 @@ class World:
         return is_same.value
 
     def changes(self, a: int, b: int) -> Optional[Box]:
-        """The least box of all cells that differ between two versions, or None where none do."""
+        """The least box of all cells that differ between two versions of a world without tints, or None where none do."""
         some, least = c.c_bool(), CBox()
         self._call("changes", _number(a), _number(b), c.byref(some), c.byref(least))
         return _six(least) if some.value else None
@@ -319,7 +319,7 @@ class World:
     def surface_bytes(self, version: int, box: Sequence[int]) -> bytes:
         """The set cells of a box, at most 256 each way, that have an unset neighbour or the world's outside beside them,
         by rising z, then y, then x. Each is five bytes: x, y and z from the box's corner, the tint, and which sides are
-        bare, in bits 0 to 5 for -x +x -y +y -z +z."""
+        bare, in bits 0 to 5 for -x +x -y +y -z +z. For worlds without tints."""
         number, part = _number(version), _box(box)
         return self._bytes(lambda out, room, needed: self._call("surface", number, part, out, room, needed), 5)
 
@@ -359,7 +359,8 @@ class World:
         return self._bytes(lambda out, size, needed: self._call("dag", out, size, needed))
 
     def flood(self, version: int, box: Sequence[int], start: Sequence[int]) -> tuple[int, bytes]:
-        """The unset cells of a box, at most 256 each way, that steps from a cell lead to: how many, and their VOX file."""
+        """The unset cells of a box, at most 256 each way, that steps from a cell lead to: how many, and their VOX file. For
+        worlds without tints."""
         number, part, place, cells = _number(version), _box(box), _place(start), c.c_uint64()
         file = self._bytes(lambda out, size, needed: self._call("flood", number, part, place, c.byref(cells), out, size, needed))
         return cells.value, file

@@ -212,7 +212,7 @@ calls! { voxdag_open_scene(plan: *const Plan, file: *const u8, size: usize, plac
 #[cfg(voxdag = "open_dag")]
 calls! { voxdag_open_dag(file: *const u8, size: usize); }
 #[cfg(voxdag = "about")]
-calls! { voxdag_about(plan: *mut Plan, asked_only: *mut bool); }
+calls! { voxdag_about(plan: *mut Plan); }
 #[cfg(voxdag = "fill_tint")]
 calls! { voxdag_fill_tint(part: *const Boxed, tint: u32); }
 #[cfg(voxdag = "ball_tint")]
@@ -292,12 +292,12 @@ impl World {
         Ok(w)
     }
 
-    /// What the world is, and whether it is only asked.
+    /// How the world is open: its side, its cap as a number from 1 to 256, how many versions it keeps, and its tints.
     #[cfg(voxdag = "about")]
-    pub fn about(&mut self) -> Answer<(Plan, bool)> {
-        let (mut plan, mut asked_only) = (Plan::default(), false);
-        told(unsafe { voxdag_about(&mut self.0, &mut plan, &mut asked_only) })?;
-        Ok((plan, asked_only))
+    pub fn about(&mut self) -> Answer<Plan> {
+        let mut plan = Plan::default();
+        told(unsafe { voxdag_about(&mut self.0, &mut plan) })?;
+        Ok(plan)
     }
 
     // The number of the version that a change made.
@@ -408,7 +408,7 @@ impl World {
         Ok(some.then_some(least))
     }
 
-    /// The least box of all cells that differ between two versions, where some do.
+    /// The least box of all cells that differ between two versions of a world without tints, where some do.
     #[cfg(voxdag = "changes")]
     pub fn changes(&mut self, a: u32, b: u32) -> Answer<Option<Boxed>> {
         let (mut some, mut least) = (false, Boxed::default());
@@ -431,7 +431,7 @@ impl World {
     }
 
     /// The set cells of a box, at most 256 each way, that have an unset neighbour or the world's outside beside them, by
-    /// rising z, then y, then x.
+    /// rising z, then y, then x. For worlds without tints.
     #[cfg(voxdag = "surface")]
     pub fn surface(&mut self, version: u32, part: Boxed) -> Answer<Vec<Shown>> {
         let handle = &mut self.0;
@@ -444,7 +444,7 @@ impl World {
         whole(|out, size, needed| unsafe { voxdag_save(handle, version, &part, out, size, needed) })
     }
 
-    /// How many unset cells of a box steps from a cell lead to, and their VOX file.
+    /// How many unset cells of a box steps from a cell lead to, and their VOX file. For worlds without tints.
     #[cfg(voxdag = "flood")]
     pub fn flood(&mut self, version: u32, part: Boxed, from: Place) -> Answer<(u64, Vec<u8>)> {
         let (handle, mut cells) = (&mut self.0, 0);

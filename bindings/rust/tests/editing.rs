@@ -52,6 +52,24 @@ fn a_world_is_edited_asked_undone_saved_and_shared() -> Result<(), Refusal> {
     Ok(())
 }
 
+#[cfg(all(voxdag = "about", voxdag = "dag"))]
+#[test]
+fn a_world_tells_how_it_is_open_and_gives_its_file_of_versions() -> Result<(), Refusal> {
+    let mut world = World::open(8, 7, &[])?;
+    let plan = world.about()?;
+    assert_eq!((plan.side, plan.cap, plan.keep, plan.tints), (8, 7, 0, 0));
+    world.fill(boxed(place(0, 0, 0), place(8, 8, 8)))?;
+    // The example of docs/DAG_FILES.md: an empty version, and one with all cells.
+    let mut file = b"VDAG".to_vec();
+    let words = |numbers: &[u32]| numbers.iter().flat_map(|n| n.to_le_bytes()).collect::<Vec<u8>>();
+    file.extend(words(&[1, 8, 2, 1, 1]));
+    file.extend([0xff; 8]);
+    file.extend(words(&[1; 8]));
+    file.extend(words(&[0, 0, 1, 1]));
+    assert_eq!(world.dag()?, file);
+    Ok(())
+}
+
 #[cfg(all(voxdag = "changes", voxdag = "surface"))]
 #[test]
 fn what_changed_and_what_can_be_seen() -> Result<(), Refusal> {
@@ -85,5 +103,25 @@ fn a_world_is_gone_on_with() -> Result<(), Refusal> {
     assert_eq!(later.count(3, cube)?, 8);
     let no_journal = World::open_journal(&Plan::default(), &[], b"voxdag journal 1\nside 8\n1 0 1 undo\nend\n");
     assert_eq!(no_journal.err(), Some(Refusal::NotLegal { line: 3 }));
+    Ok(())
+}
+
+#[cfg(all(voxdag = "open_as", voxdag = "fill_tint", voxdag = "colour"))]
+#[test]
+fn cells_have_tints() -> Result<(), Refusal> {
+    use voxdag::Plan;
+    let one = boxed(place(1, 1, 1), place(1, 1, 1));
+    let mut world = World::open_as(&Plan { side: 8, tints: 1, ..Plan::default() }, &[])?;
+    assert_eq!(world.fill_tint(one, 7)?, 1);
+    assert_eq!(world.fill(one)?, 2);
+    assert_eq!(world.ball_tint(place(1, 1, 1), 0, 7)?, 3);
+    assert_eq!((world.colour(0, one.at)?, world.colour(1, one.at)?, world.colour(2, one.at)?), (0, 7, 1));
+    assert!(world.same(1, 3)? && !world.same(1, 2)?);
+    assert_eq!(world.fill_tint(one, 0), Err(Refusal::BadTint));
+    // The colour of the one cell is the last byte of its file.
+    assert_eq!(world.save(1, one)?.last(), Some(&7));
+    let mut later = World::open_journal(&Plan::default(), &[], &world.journal()?)?;
+    assert_eq!(later.colour(3, one.at)?, 7);
+    assert_eq!(World::open(8, 0, &[])?.fill_tint(one, 7), Err(Refusal::OtherKind));
     Ok(())
 }

@@ -7,3 +7,4 @@ pub mod Sessions
 pub mod Counts
 pub mod Statements
 pub use Rattle.store_run.specs.Kept
+pub use Rattle.store_run.specs.TintFiles

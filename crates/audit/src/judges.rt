@@ -1,13 +1,13 @@
 //! Whether a history, scripts and transcripts are those of one run.
 ghost use Rattle.std.specs.Prelude.{◌≡◌, ◌+◌, ◌<◌, ◌≤◌, ◌^◌, ◌↔◌, true, All, IfOk, IfErr, IfSome, IsTrue, MatchOption, length};
 ghost use Rattle.vox_read.specs.Contents.{AreModels};
-ghost use Rattle.history_model.specs.Logs.{FitsWorld, IsLegal, SuitsTints, suits_tints};
+ghost use Rattle.history_model.specs.Logs.{FitsWorld, IsLegal, suits_tints};
 ghost use Rattle.node_words.specs.Plans.{is_number_of_buckets};
 ghost use Rattle.script.specs.Fitting.{CommandFits, RisesFrom};
 ghost use Rattle.store_run.specs.Kept.{IsLargeStore};
 ghost use Rattle.store_run.specs.Replaying.{replay_plan};
 ghost use Rattle.audit.specs.Audits.{IsAudited, RefusesAlong, RefusesAudit, judged_by};
-ghost use Rattle.audit.specs.Reruns.{IsRerun, MayRunAgain};
+ghost use Rattle.audit.specs.Reruns.{AreScriptsFor, IsRerun, MayAudit, MayReplay, MayRunAgain};
 
 use crate::audits::AuditRefused;
 use crate::marks::{RECORDS, mark_table};
@@ -101,15 +101,8 @@ fn audit_over<L: Ledger>(
     keep: u32,
     blank: Blank,
 ) -> Result<bool, AuditRefused>
-    requires models { AreModels models }
-    requires large { IsLargeStore log.now.coloured log.now.side }
-    requires side { judged.now.side ≡ log.now.side }
-    requires replayed { replayed.now.side ≡ log.now.side }
-    requires fits { All (All
-        (λ l. CommandFits log.now.coloured (2 ^ log.now.side) models l.command))
-        scripts.now }
-    requires rise { All (RisesFrom 1) scripts.now }
-    requires few { length scripts.now ≤ 64 }
+    requires may { MayAudit judged.now replayed.now models log.now }
+    requires scripts { AreScriptsFor models log.now scripts.now }
     requires name { blank.name ≡ L.name }
     requires parts { blank.parts ≡ L.parts }
     requires some { 0 < L.parts }
@@ -163,10 +156,7 @@ fn run_again<L: Ledger>(
     replayed: &Plan,
     blank: Blank,
 ) -> Result<Option<Rerun<L>>, AuditRefused>
-    requires models { AreModels models }
-    requires suits { SuitsTints log.now }
-    requires large { IsLargeStore log.now.coloured log.now.side }
-    requires side { replayed.now.side ≡ log.now.side }
+    requires replays { MayReplay replayed.now models log.now }
     requires name { blank.name ≡ L.name }
     requires parts { blank.parts ≡ L.parts }
     requires some { 0 < L.parts }
@@ -195,10 +185,7 @@ fn run_over<L: Ledger>(
     blank: Blank,
     table: Vec<Option<Mark>>,
 ) -> Result<Option<Rerun<L>>, AuditRefused>
-    requires models { AreModels models }
-    requires suits { SuitsTints log.now }
-    requires large { IsLargeStore log.now.coloured log.now.side }
-    requires side { replayed.now.side ≡ log.now.side }
+    requires replays { MayReplay replayed.now models log.now }
     requires name { blank.name ≡ L.name }
     requires parts { blank.parts ≡ L.parts }
     requires some { 0 < L.parts }

@@ -1,11 +1,12 @@
-ghost use Rattle.std.specs.Prelude.{◌≡◌, ◌+◌, ◌<◌, ◌≤◌, ◌^◌, ◌++◌, ◌∷◌, true, false, [], List, length, take, All, IfOk, IfErr, MatchOption, Ok, IsTrue, ◌↔◌};
+ghost use Rattle.std.specs.Prelude.{◌≡◌, ◌+◌, ◌<◌, ◌^◌, ◌++◌, ◌∷◌, true, false, [], List, length, take, All, IfOk, IfErr, MatchOption, Ok, IsTrue, ◌↔◌};
 ghost use Rattle.conformance.specs.Answers.{target_at};
 ghost use Rattle.history_model.specs.declared.histories.Mark.{Mark};
-ghost use Rattle.history_model.specs.Logs.{FitsWorld, suits_tints};
+ghost use Rattle.history_model.specs.Logs.{suits_tints};
 ghost use Rattle.audit.specs.Marks.{TellsMarks};
 ghost use Rattle.store_run.specs.Replaying.{MakesOnlyParts};
 ghost use Rattle.audit.specs.Audits.{RefusesAlong};
-ghost use Rattle.audit.specs.Replaying.{FollowEach, AreUndoTargets, Steps, FreeBy, RefusesNext, undo_targets_at};
+ghost use Rattle.audit.specs.Replaying.{AreUndoTargets, FollowEach, FreeBy, RefusesNext, Steps};
+ghost use Rattle.audit.specs.Replaying.{MayTakeAll, MayTakeNext, StaysInWorld, undo_targets_at};
 
 use crate::audits::AuditRefused;
 use crate::marks::{is_held, mark_of};
@@ -28,15 +29,9 @@ pub(crate) fn replay_all<L: Ledger>(
     records: &[Record],
     table: &[Option<Mark>],
 ) -> Result<Option<Vec<UndoTargets>>, AuditRefused>
-    requires empty { replay.old.records ≡ [] }
-    requires few { length records.now ≤ 65535 }
+    requires all { MayTakeAll replay.old records.now }
     requires suits { All (λ r. suits_tints replay.old.tint r.act ≡ true) records.now }
-    requires fit { All (λ r. FitsWorld (2 ^ replay.old.plan.side) replay.old.models r.act)
-        records.now }
-    requires made { MakesOnlyParts replay.old }
-    ensures plan { replay.new.plan ≡ replay.old.plan }
-    ensures tint { replay.new.tint ≡ replay.old.tint }
-    ensures models { replay.new.models ≡ replay.old.models }
+    ensures stays { StaysInWorld replay.old replay.new }
     ensures refused { let s = replay.old in
         (marks : List Mark) → TellsMarks marks table.now
         → IfErr result (RefusesAlong s.plan s.models marks records.now) }
@@ -80,13 +75,8 @@ fn step<L: Ledger>(
     next: Record,
     table: &[Option<Mark>],
 ) -> Result<bool, AuditRefused>
-    requires early { length replay.old.records < 65535 }
-    requires suits { suits_tints replay.old.tint next.act ≡ true }
-    requires fits { FitsWorld (2 ^ replay.old.plan.side) replay.old.models next.act }
-    requires made { MakesOnlyParts replay.old }
-    ensures plan { replay.new.plan ≡ replay.old.plan }
-    ensures tint { replay.new.tint ≡ replay.old.tint }
-    ensures models { replay.new.models ≡ replay.old.models }
+    requires may { MayTakeNext replay.old next }
+    ensures stays { StaysInWorld replay.old replay.new }
     ensures more { result ≡ Ok true
         → replay.new.records ≡ replay.old.records ++ next ∷ [] }
     ensures made { result ≡ Ok true → MakesOnlyParts replay.new }

@@ -1,12 +1,12 @@
 //! Whether a session's transcript answers its script.
 ghost use Rattle.std.specs.Prelude.{◌≡◌, ◌+◌, ◌<◌, ◌≤◌, ◌^◌, ◌↔◌, ℕ, false, length, IsTrue, All, AllPairs};
 ghost use Rattle.std.specs.List.{AllZip};
-ghost use Rattle.script.specs.Fitting.{CommandFits, RisesFrom};
+ghost use Rattle.script.specs.Fitting.{CommandFits};
 ghost use Rattle.transcript.specs.declared.answers.Answer.TheVariants as answers;
 ghost use Rattle.conformance.specs.Answers.{LineFits};
 ghost use Rattle.retain.specs.Retained.{KeepsLast};
 ghost use Rattle.conformance.specs.Agreeing.{InOrder, SessionAgrees, SessionsAgree, AgreesKeeping};
-ghost use Rattle.audit.specs.Reruns.{IsRerun};
+ghost use Rattle.audit.specs.Reruns.{AreScriptsFor, IsRerun};
 ghost use Rattle.audit.specs.Sessions.{IsAfterMoment, FollowsLast};
 
 use crate::counts::show_as_many;
@@ -122,11 +122,7 @@ impl<L: Ledger> Rerun<L> {
         keep: u32,
     ) -> bool
         requires rerun { IsRerun log.now self.old.replay self.old.ways.items self.old.table.items }
-        requires fits { All (All
-            (λ l. CommandFits log.now.coloured (2 ^ log.now.side) self.old.replay.models l.command))
-            scripts.now }
-        requires rise { All (RisesFrom 1) scripts.now }
-        requires few { length scripts.now ≤ 64 }
+        requires scripts { AreScriptsFor self.old.replay.models log.now scripts.now }
         requires marks { AllPairs (λ a b. a.version < b.version) log.now.marks }
         requires last { KeepsLast keep log.now }
         ensures fits { IsTrue result ↔ AgreesKeeping keep judged.now self.old.replay.models

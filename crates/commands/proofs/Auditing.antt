@@ -361,6 +361,7 @@ audit_judged asked = record {
       (file_in texts) v w of_v of_w;
   given = λ texts answer outputs g.
       read_fine (file_in texts) (texts_audited asked texts) g.answers.all;
+  begun = λ texts outputs b. absurd b;
   refused = λ texts r says.
       audit_refused_by (file_in texts) (texts_audited asked texts) r says;
   some = λ readings texts none.

@@ -63,6 +63,7 @@ count_judged file = record {
       of_w;
   given = λ texts number outputs g.
       record { reading = Ok g.models; says = g.gives; judged = refl };
+  begun = λ texts outputs b. absurd b;
   refused = λ texts r says. refused_by (file_in texts) r says;
   some = λ readings texts none.
       computed_is_some (judges texts)

@@ -194,6 +194,7 @@ dag_judged asked = record {
       (λ models a b of_a of_b. legal_once (journal_in texts) models a b of_a of_b)
       (file_in texts) v w of_v of_w;
   given = λ texts told outputs g. legal_fine (file_in texts) (journal_in texts) g.makes.legal;
+  begun = λ texts outputs b. legal_fine (file_in texts) (journal_in texts) b.makes.legal;
   refused = λ texts r says. dag_refused_by (file_in texts) (journal_in texts) r says;
   some = λ readings texts none.
       models_not_lacking (JudgesLegal (journal_in texts)) (file_in texts) readings

@@ -184,6 +184,13 @@ flood_judged asked = record {
     says = g.floods.gives;
     judged = sym (flooded_fine asked g.floods.models number g.file g.floods.floods);
   };
+  begun = λ texts outputs b.
+      let f = b.flooded in
+      record {
+        reading = Ok f.floods.models;
+        says = f.floods.gives;
+        judged = sym (flooded_fine asked f.floods.models b.number f.file f.floods.floods);
+      };
   refused = λ texts r says. flood_refused_by asked (file_in texts) r says;
   some = λ readings texts none.
       computed_is_some (JudgesModels (judges_place asked) (file_in texts))

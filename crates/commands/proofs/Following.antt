@@ -110,7 +110,12 @@ follows_told m laws (Err (refusals.Input r)) files faults new v outcome judges =
     read_follows r.why r.name.now m.judges files m.inputs faults new.faults v outcome.0 judges
 follows_told m laws (Err (refusals.Text r)) files faults new v outcome judges =
     text_follows m laws r files v outcome.0 judges
-follows_told m laws (Err (refusals.Output r)) files faults new v outcome judges = tt
+follows_told m laws (Err (refusals.Output r)) files faults new v outcome judges =
+    let breaks = outcome.breaks in
+    laws.one breaks.texts v Fine
+    (subst (λ read. JudgesInputs m.judges read v)
+    (all_taken files m.inputs breaks.texts breaks.taken) judges)
+    (laws.begun breaks.texts breaks.outputs breaks.begun)
 
 pub outcome_follows : {T : Type 0} (m : Meaning T) → IsJudged m → (r : Result T CommandRefused)
     (old new : ShelfState) → Outcome m r old new → (files : Files) (v : Verdict)
@@ -160,6 +165,7 @@ pub judged_as : {T U : Type 0} (make : T → U) (m : Meaning T) → IsJudged m
 judged_as make m laws = record {
   one = laws.one;
   given = λ texts told outputs gives. laws.given texts gives.own outputs gives.given;
+  begun = laws.begun;
   refused = laws.refused;
   some = laws.some;
   computed = laws.computed;

@@ -79,6 +79,7 @@ look_judged asked = record {
   one = λ texts v w of_v of_w. answers_once asked (file_in texts) v w of_v of_w;
   given = λ texts answer outputs g.
       (None, answer_has_place (file_in texts) asked.version asked.question answer g.answers, refl);
+  begun = λ texts outputs b. absurd b;
   refused = λ texts r says. look_refused_by asked (file_in texts) r says;
   some = λ readings texts none.
       computed_is_some (JudgesAnswer asked (file_in texts)) (look_computed asked (file_in texts))

@@ -176,6 +176,13 @@ scene_judged asked = record {
     says = g.places.has.has.has;
     judged = (None, placeable (file_in texts) g.places.scene g.places.has, refl);
   };
+  begun = λ texts outputs b.
+      let p = b.placed.places in
+      record {
+        reading = Ok p.has.has.models;
+        says = p.has.has.has;
+        judged = (None, placeable (file_in texts) p.scene p.has, refl);
+      };
   refused = λ texts r says. scene_refused_by (file_in texts) r says;
   some = λ readings texts none.
       computed_is_some (JudgesModels (judges_scene (file_in texts)) (file_in texts))

@@ -2,7 +2,7 @@
 use Rattle.std.proofs.Common.{◌≡◌, ℕ, suc, ◌-◌, ◌^◌, ◌<◌, ◌≤◌, List, length, get_or, Some, sym, ap, subst, ◌∙◌, arith}
 use Rattle.std.specs.Prelude.{slice_get}
 use Rattle.std.specs.List.{Contains}
-use Rattle.std.proofs.lemmas.Option.{get_or_from_slice_get, slice_get_within}
+use Rattle.std.proofs.lemmas.Option.{get_or_from_slice_get}
 use Rattle.vw_cell.specs.declared.cells.Cell.{Cell}
 use Rattle.vw_cell.specs.Places.{IsInWorld, IsInBlock}
 use Rattle.vox_read.specs.Contents.{Content}
@@ -13,11 +13,13 @@ use Rattle.node_words.specs.shapes.Tree.{Tree, shape_of}
 use Rattle.node_words.proofs.HeldLaws.{held_reached}
 use Rattle.core_laws.specs.contents.Versions.{HoldsVersion, SameWorld}
 use Rattle.core_laws.proofs.OfContents.WorldBlocks as blocks
-use Rattle.node_words.specs.descent.Roots.{HoldsRoot, IsBlockOf}
+use Rattle.node_words.specs.descent.Roots.{IsBlockOf}
 use Rattle.edit_walk.specs.cells.Worlds.{block_at_origin}
 use Rattle.store_run.specs.Marked.{Rooted, ShowsVersion, HoldsVersions}
+use Rattle.store_run.specs.Taken.{IsFileOfHeld}
+use Rattle.store_run.proofs.Listed.{is_in}
 use Rattle.dag_file.specs.Kept.{version_shape}
-use Rattle.dag_file.specs.Lists.{HoldsList, DoNumbersRise, AreNumbersSmall, IsFileOfList}
+use Rattle.dag_file.specs.Lists.{IsFileOfList}
 use Rattle.dag_file.specs.Places.{versions_in}
 use Rattle.dag_file.specs.Trees.{IsVersion, HasVersion}
 use Rattle.dag_file.proofs.ListLaws.{there}
@@ -25,9 +27,6 @@ use Rattle.dag_answers.specs.Histories.{IsFileOfHistory}
 use Rattle.dag_answers.specs.Looks.{version_has}
 
 -- ---- lists
-
-is_in : (roots : List Rooted) (v : ℕ) (x : Rooted) → slice_get roots v ≡ Some x → Contains roots x
-is_in roots v x is = (v, slice_get_within roots v x is, get_or_from_slice_get roots v x x is)
 
 one_some : (roots : List Rooted) (v : ℕ) (x y : Rooted) → slice_get roots v ≡ Some x
     → get_or roots v y ≡ y → x ≡ y
@@ -37,25 +36,6 @@ module _ (models : List Content) (log : Log) (held : List Tree) (roots : List Ro
     (low : 2 ≤ log.side) (kept : HoldsVersions log.side models log held roots) where
   same_side : log.side ≡ suc (log.side - 1)
   same_side = omega (arith, low)
-
-  -- ---- what the writer of a file asks of the roots
-
-  pub roots_held : HoldsList held (log.side - 1) roots
-  roots_held = λ v x is.
-      subst (λ (s : ℕ). HoldsRoot held s x.1) same_side (kept.each x (is_in roots v x is)).holds
-
-  pub roots_rise : DoNumbersRise roots
-  roots_rise = λ v x y is next.
-      let at = get_or_from_slice_get roots v x x is in
-      let later = get_or_from_slice_get roots (suc v) y x next in
-      let lt =
-      kept.versions.rising v (suc v) x (omega arith) (slice_get_within roots (suc v) y next) in
-      subst (λ (a : Rooted). a.0 < y.0) at
-      (subst (λ (b : Rooted). (get_or roots v x).0 < b.0) later lt)
-
-  pub roots_small : length log.records ≤ 65535 → AreNumbersSmall roots
-  roots_small few = λ v x is.
-      let le = (kept.versions.listed x (is_in roots v x is)).there in omega (arith, le, few)
 
   -- ---- what the file is then
 
@@ -140,3 +120,9 @@ module _ (models : List Content) (log : Log) (held : List Tree) (roots : List Ro
       versions = λ v. (has_kept v, kept_has v);
       cells = cells_are;
     }
+
+-- the same of the file that a store's versions give
+pub file_of_held : (models : List Content) (log : Log) (file : List ℕ)
+    → IsFileOfHeld models log file → IsFileOfHistory models log file
+file_of_held models log file of =
+    file_of_kept models log of.held of.roots of.low of.versions file of.file_is

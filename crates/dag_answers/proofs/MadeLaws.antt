@@ -7,7 +7,8 @@ use Rattle.store_run.specs.Marked.{Rooted, HoldsVersions}
 use Rattle.store_run.specs.Worlds.{WorldState}
 use Rattle.dag_file.specs.Lists.{HoldsList, DoNumbersRise, AreNumbersSmall, IsFileOfList}
 use Rattle.dag_answers.specs.Histories.{IsFileOfHistory}
-use Rattle.dag_answers.proofs.FileLaws.{file_of_kept, roots_held, roots_rise, roots_small}
+use Rattle.store_run.proofs.Listed.{roots_held, roots_rise, roots_small}
+use Rattle.dag_answers.proofs.FileLaws.{file_of_kept}
 
 module _ (models : List Content) (log : Log) (now : WorldState) (held : List Tree)
     (roots : List Rooted) (side : now.plan.side ≡ log.side) (same : now.models ≡ models)

@@ -1,5 +1,5 @@
 //! The file of the versions of a history.
-ghost use Rattle.std.specs.Prelude.{◌≡◌, ◌+◌, ◌^◌, ◌-◌, ◌<◌, ◌≤◌, [], false, All, IfOk, IfErr, OnOk, drop, length};
+ghost use Rattle.std.specs.Prelude.{◌≡◌, ◌+◌, ◌^◌, ◌-◌, ◌<◌, ◌≤◌, [], All, IfOk, IfErr, OnOk, drop, length};
 ghost use Rattle.std.specs.List.{AllPairs};
 ghost use Rattle.vox_read.specs.Contents.{AreModels};
 ghost use Rattle.history_model.specs.Logs.{SuitsTints};
@@ -9,7 +9,8 @@ ghost use Rattle.store_run.specs.Marked.{AreLegalMarks, HoldsVersions};
 ghost use Rattle.store_run.specs.Replaying.{AreLegalRecords, replay_plan};
 ghost use Rattle.dag_answers.specs.Histories.{IsFileOfHistory, RefusesHistory, RefusesHistoryOver, of_replay};
 ghost use Rattle.dag_file.specs.Lists.{HoldsList, DoNumbersRise, AreNumbersSmall, IsFileOfList};
-ghost use Rattle.dag_answers.specs.Replays.{AreDue, HasReplayed};
+ghost use Rattle.dag_answers.specs.Replays.{AreDue, AreDueMarks, GivesWorldOf, HasReplayed};
+ghost use Rattle.dag_answers.specs.Replays.{MayReplayStored};
 
 use crate::legality::first_illegal;
 use dag_file::write_dag;
@@ -97,7 +98,7 @@ pub fn world_of_history(
 ) -> Result<OpenWorld, HistoryRefused>
     requires models { AreModels models }
     requires suits { SuitsTints history.now }
-    requires plain { history.now.coloured ≡ false }
+    requires large { IsLargeStore history.now.coloured history.now.side }
     requires marks { AreLegalMarks (length history.now.records) history.now.marks }
     requires side { plan.now.side ≡ history.now.side }
     ensures plan { IfOk result (λ w. w.plan ≡ plan.now) }
@@ -121,19 +122,12 @@ fn world_over<L: Ledger>(
     plan: &Plan,
     blank: Blank,
 ) -> Result<OpenWorld, HistoryRefused>
-    requires models { AreModels models }
-    requires suits { SuitsTints history.now }
-    requires plain { history.now.coloured ≡ false }
-    requires marks { AreLegalMarks (length history.now.records) history.now.marks }
+    requires replays { MayReplayStored models history.now }
     requires side { plan.now.side ≡ history.now.side }
-    requires records { AreLegalRecords (2 ^ history.now.side) models history.now.marks
-        history.now.records }
     requires name { blank.name ≡ L.name }
     requires parts { blank.parts ≡ L.parts }
     requires some { 0 < L.parts }
-    ensures plan { IfOk result (λ w. w.plan ≡ plan.now) }
-    ensures models { IfOk result (λ w. w.models ≡ models) }
-    ensures log { IfOk result (λ w. w.log ≡ history.now) }
+    ensures world { GivesWorldOf plan.now models history.now result }
     ensures refused { IfErr result (RefusesHistoryOver plan.now models history.now) }
 {
     let replay: MarkedReplay<L> = replay_history(alloc, history, models, plan, blank)?;
@@ -148,13 +142,8 @@ fn file_over<L: Ledger>(
     plan: &Plan,
     blank: Blank,
 ) -> Result<Vec<u8>, HistoryRefused>
-    requires models { AreModels models }
-    requires suits { SuitsTints history.now }
-    requires large { IsLargeStore history.now.coloured history.now.side }
-    requires marks { AreLegalMarks (length history.now.records) history.now.marks }
+    requires replays { MayReplayStored models history.now }
     requires plan { plan.now ≡ replay_plan history.now.side }
-    requires records { AreLegalRecords (2 ^ history.now.side) models history.now.marks
-        history.now.records }
     requires name { blank.name ≡ L.name }
     requires parts { blank.parts ≡ L.parts }
     requires some { 0 < L.parts }
@@ -176,19 +165,12 @@ fn replay_history<L: Ledger>(
     plan: &Plan,
     blank: Blank,
 ) -> Result<MarkedReplay<L>, HistoryRefused>
-    requires models { AreModels models }
-    requires suits { SuitsTints history.now }
-    requires large { IsLargeStore history.now.coloured history.now.side }
-    requires marks { AreLegalMarks (length history.now.records) history.now.marks }
+    requires replays { MayReplayStored models history.now }
     requires side { plan.now.side ≡ history.now.side }
-    requires records { AreLegalRecords (2 ^ history.now.side) models history.now.marks
-        history.now.records }
     requires name { blank.name ≡ L.name }
     requires parts { blank.parts ≡ L.parts }
     requires some { 0 < L.parts }
-    ensures plan { IfOk result (λ r. r.plan ≡ plan.now) }
-    ensures models { IfOk result (λ r. r.models ≡ models) }
-    ensures log { IfOk result (λ r. r.log ≡ history.now) }
+    ensures world { GivesWorldOf plan.now models history.now result }
     ensures refused { IfErr result (RefusesHistoryOver plan.now models history.now) }
 {
     let due = marks_due(alloc, history.marks.as_slice())?;
@@ -220,8 +202,7 @@ fn replay_all<L: Ledger>(
     due: &[Mark],
 ) -> Result<(), ReplayRefused>
     requires suits { SuitsTints history.now }
-    requires marks { AreLegalMarks (length history.now.records) history.now.marks }
-    requires due { AreDue history.now.marks due.now }
+    requires dated { AreDueMarks history.now due.now }
     requires records { AreLegalRecords (2 ^ history.now.side) replay.old.models history.now.marks
         history.now.records }
     requires begun { HasReplayed replay.old.models history.now due.now 0 0 replay.old }
@@ -251,8 +232,7 @@ fn forget_due<L: Ledger>(
     due: &[Mark],
     from: usize,
 ) -> usize
-    requires marks { AreLegalMarks (length history.now.records) history.now.marks }
-    requires due { AreDue history.now.marks due.now }
+    requires dated { AreDueMarks history.now due.now }
     requires from { from ≤ length due.now }
     requires so_far { HasReplayed replay.old.models history.now due.now
         (length replay.old.log.records) from replay.old }

@@ -41,8 +41,7 @@ module _ (log : Log) (roots : List Root) (are : AreKeptRoots log roots) where
       let there = are.all u kept in
       let inside = there.1 in
       let long = length-map roots (λ (r : Root). r.version) in
-      let lt : there.0 < length roots = omega arith in
-      (
+      let lt : there.0 < length roots = omega arith in (
         there.0,
         lt,
         sym (get_or-map (λ (r : Root). r.version) roots there.0 no_root u lt) ∙ there.2,
@@ -136,12 +135,12 @@ module _ (log : Log) (roots : List Root) (are : AreKeptRoots log roots) where
           below = λ v between. rows_to log (root_in_list roots) (r.version + 1) v new
               (over v between)
               (λ u low high. none_between (i + 1) (r.version + 1) v u
-                  (λ j less inside. up_to j less)
+              (λ j less inside. up_to j less)
               between low high) both.0;
           look_up = λ v between. firsts_to log (root_in_list roots) (r.version + 1) v news
               (over v between)
               (λ u low high. none_between (i + 1) (r.version + 1) v u
-                  (λ j less inside. up_to j less)
+              (λ j less inside. up_to j less)
               between low high) both.1;
         }
 

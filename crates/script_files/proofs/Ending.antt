@@ -523,6 +523,11 @@ run_judged asked = record {
     says = g.accepted.gives;
     judged = sym (given_fine asked texts g.log g.transcripts g.accepted);
   };
+  begun = λ texts outputs b. record {
+    reading = Ok b.accepted.models;
+    says = b.accepted.gives;
+    judged = sym (given_fine asked texts b.log b.transcripts b.accepted);
+  };
   refused = λ texts r says. run_refused_by asked texts r says;
   some = λ readings texts none.
       computed_is_some (JudgesModels (judges_names asked texts) (file_in texts))

@@ -211,6 +211,7 @@ pub demo_judged : (n : ℕ) → IsJudged (demo_means n)
 demo_judged n = record {
   one = λ texts v w of_v of_w. of_v ∙ sym of_w;
   given = λ texts written outputs g. refl;
+  begun = λ texts outputs b. refl;
   refused = λ texts r says. demo_refused_by texts r says;
   some = λ readings texts none. none Fine refl;
   computed = λ readings told texts. (Fine, refl);

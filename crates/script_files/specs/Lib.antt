@@ -1,4 +1,4 @@
-pub mod TintFiles
+pub use Rattle.audit.specs.TintFiles
 pub mod Requests
 pub mod Reports
 pub mod Runs

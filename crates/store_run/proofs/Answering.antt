@@ -27,7 +27,7 @@ use Rattle.conformance.specs.scripts.Sessions.{TakesLine}
 use Rattle.conformance.proofs.OfScripts.Arms.{rebuilt_arm, undone_arm, forgot_arm, full_arm, late_arm, resting_arm, before_within}
 use Rattle.one_store.specs.Known.{known_state}
 use Rattle.store_run.specs.declared.stored_versions.Versions.{Versions}
-use Rattle.store_run.specs.Kept.{plan_of, log_of, moment_of, noted_of, AreVersions, LosesTree, HoldsSame}
+use Rattle.store_run.specs.Kept.{plan_of, log_of, moment_of, noted_of, AreStoredVersions, LosesTree, HoldsSame}
 use Rattle.store_run.specs.Steps.{IsVersionMarked, LeavesAll, SharesRootOfVersion, MakesRoot, MeetsBucket, GainsRecord, GainsMark}
 use Rattle.store_run.specs.Answering.{ExtendsBy, nothing_to_go_to}
 use Rattle.store_run.proofs.Holding.{same_again}
@@ -58,7 +58,7 @@ FitsSoFar v session l answer =
     (moment_of v) l.command answer
 
 -- an answer that changes nothing
-pub rests : (v w : Versions) (session : ℕ) (l : ScriptLine) (answer : Answer) → AreVersions v
+pub rests : (v w : Versions) (session : ℕ) (l : ScriptLine) (answer : Answer) → AreStoredVersions v
     → LeavesAll v w
     → is_resting answer ≡ true → refused_by l.command (moment_of v) answer ≡ []
     → FitsSoFar v session l answer
@@ -74,7 +74,7 @@ rests v w session l answer are leaves resting none fits = record {
       let first = last_moment 0 transcript in
       let line =
       resting_arm p models session first l (log_of v) answer
-      (noted_of v) are.stored.sound.legal resting none
+      (noted_of v) are.sound.legal resting none
       (fits scripts transcripts script transcript running.so_far number after) in
       subst (λ (new : Log). TakesLine p models session first l (log_of v) new (noted_of v)
       (noted_of w) (answer_at l (length new.records) answer)) (sym leaves.stay.log)
@@ -112,7 +112,7 @@ readable_now v session line version kept = kept_readable (log_of v) session line
 
 -- ---- edits
 
-module _ (v w : Versions) (session line : ℕ) (act : Act) (once : Bool) (are : AreVersions v)
+module _ (v w : Versions) (session line : ℕ) (act : Act) (once : Bool) (are : AreStoredVersions v)
     (edit : is_edit act ≡ true) where
   p : Layout
   p = plan_of v
@@ -137,8 +137,8 @@ module _ (v w : Versions) (session line : ℕ) (act : Act) (once : Bool) (are : 
         let done =
         full_arm (plan_of v) v.models.models session first line act once full.level full.bucket
         (log_of v) (known_state v.store) (known_state w.store)
-        are.stored.sound.legal refl low
-        (meets_full v act are.stored edit full.level full.bucket (known_state v.store)
+        are.sound.legal refl low
+        (meets_full v act are edit full.level full.bucket (known_state v.store)
         (known_state w.store) meets.fails) in
         subst (λ (new : Log). TakesLine (plan_of v) v.models.models session first l (log_of v) new
         (noted_of v) (noted_of w)
@@ -175,7 +175,7 @@ module _ (v w : Versions) (session line : ℕ) (act : Act) (once : Bool) (are : 
         let grew : Grew (Wants v act) v.store.told.made w.store.told.made =
         subst (λ (list : List Shape). Grew (Wants v act) v.store.told.made list)
         (sym appends.only.only.made)
-        (grew_wanted v act are.stored edit v.store.told.made u.store.told.made makes.grows.made) in
+        (grew_wanted v act are edit v.store.told.made u.store.told.made makes.grows.made) in
         let done =
         rebuilt_arm (plan_of v) v.models.models session first line act once (log_of v)
         (log_of w) (noted_of v) (noted_of w)
@@ -205,11 +205,11 @@ module _ (v w : Versions) (session line : ℕ) (act : Act) (once : Bool) (are : 
         let grew : Grew (Wants v act) v.store.told.made w.store.told.made =
         subst (λ (list : List Shape). Grew (Wants v act) v.store.told.made list)
         (sym leaves.only.made)
-        (grew_wanted v act are.stored edit v.store.told.made u.store.told.made makes.grows.made) in
+        (grew_wanted v act are edit v.store.told.made u.store.told.made makes.grows.made) in
         let done =
         late_arm (plan_of v) v.models.models session first line act once (log_of v)
         (noted_of v) (noted_of w)
-        are.stored.sound.legal (sym (moment_as v u makes.stay.log) ∙ all) edit low grew
+        are.sound.legal (sym (moment_as v u makes.stay.log) ∙ all) edit low grew
         (leaves.only.met ∙ makes.grows.met) in
         subst (λ (new : Log). TakesLine (plan_of v) v.models.models session first l (log_of v) new
         (noted_of v) (noted_of w) (answer_at l (length new.records) answers.LogFull))
@@ -266,7 +266,7 @@ go_done v u w session line act once to root shares appends = record {
       (log_of w) (noted_of v) (noted_of v) (answer_at l n answers.Done)) (sym longer) done));
 }
 
-module _ (v : Versions) (session line : ℕ) (act : Act) (once : Bool) (are : AreVersions v)
+module _ (v : Versions) (session line : ℕ) (act : Act) (once : Bool) (are : AreStoredVersions v)
     (other : is_edit act ≡ false) where
   nothing_fits : target_at v.records.items (moment_of v) act ≡ None
       → FitsSoFar v session (record { line = line; command = Edit act once }) (nothing_to_go_to act)
@@ -379,7 +379,7 @@ forgot_version v w session line version at now marks = record {
       (sym same) done));
 }
 
-module _ (v : Versions) (session line : ℕ) (are : AreVersions v) where
+module _ (v : Versions) (session line : ℕ) (are : AreStoredVersions v) where
   pub forgets_head : (version : ℕ) → version ≡ moment_of v
       → ExtendsBy v session (record { line = line; command = Forget version }) answers.IsHead v
   forgets_head version is =

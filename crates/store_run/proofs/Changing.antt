@@ -8,8 +8,10 @@ use Rattle.history_model.specs.declared.acts.Act.TheVariants.{Fill, Erase, Ball,
 use Rattle.history_model.specs.declared.histories.Mark.{Mark}
 use Rattle.history_model.specs.declared.histories.Record.{Record}
 use Rattle.history_model.specs.Laws.{has_stays, has_of_edit, has_of_other, position_of_next}
+use Rattle.history_model.specs.FoldLaws.{state_stays, state_of_edit, state_of_other}
 use Rattle.history_model.specs.Logs.{Log}
-use Rattle.history_model.specs.Moments.{world_has}
+use Rattle.history_model.specs.Moments.{world_has, world_tint}
+use Rattle.history_model.specs.Tints.{Tints, untinted, tints_by}
 use Rattle.history_model.specs.Positions.{Position}
 use Rattle.history_model.specs.Worlds.{is_edit}
 use Rattle.core_laws.specs.contents.Versions.{HoldsVersion}
@@ -153,6 +155,21 @@ makes_version models old new r is =
           ∙ ap (λ (at : Position). world_has models old.records at.now c)
           (position_of_next old.records r)
           ∙ ap (λ (n : ℕ). world_has models old.records n c)
+          (goes_to old r.act to goes.other goes.goes).goes;
+      tints_earlier = λ v le c. ap (λ (rs : List Record). world_tint models rs v c) records
+          ∙ ap (λ (t : Tints). t c)
+          (state_stays untinted (tints_by models) old.records (r ∷ []) v le);
+      tints_edit = λ edit c. ap
+          (λ (rs : List Record). world_tint models rs (length old.records + 1) c) records
+          ∙ ap (λ (t : Tints). t c)
+          (state_of_edit untinted (tints_by models) old.records r edit);
+      tints_other = λ to goes c.
+          ap (λ (rs : List Record). world_tint models rs (length old.records + 1) c) records
+          ∙ ap (λ (t : Tints). t c)
+          (state_of_other untinted (tints_by models) old.records r goes.other)
+          ∙ ap (λ (at : Position). world_tint models old.records at.now c)
+          (position_of_next old.records r)
+          ∙ ap (λ (n : ℕ). world_tint models old.records n c)
           (goes_to old r.act to goes.other goes.goes).goes;
     }
 

@@ -18,3 +18,6 @@ pub mod Taking
 pub mod Filling
 pub mod Followed
 pub mod Taken
+pub mod Listed
+pub mod Lent
+pub mod TintFiles

@@ -1,5 +1,5 @@
 -- What a change makes of a world that stands open.
-use Rattle.std.proofs.Common.{◌≡◌, ◌↔◌, ℕ, ◌-◌, ◌^◌, Bool, false, Option, List, ◌∙◌, ap, subst}
+use Rattle.std.proofs.Common.{◌≡◌, ◌↔◌, ℕ, ◌-◌, ◌/◌, ◌^◌, Bool, true, false, Option, List, sym, ◌∙◌, ap, subst}
 use Rattle.std.specs.declared.vec.Vec.{Vec}
 use Rattle.std.specs.Prelude.{Result, Ok, Err, IfOk, IsTrue}
 use Rattle.vw_cell.specs.declared.boxes.Boxed.{Boxed}
@@ -16,14 +16,15 @@ use Rattle.core_laws.proofs.RootCells.{same_cells, same_root}
 use Rattle.node_words.specs.descent.Roots.{IsBlockOf, ForWorld, cells_of}
 use Rattle.extract.specs.Saved.{file_of_box}
 use Rattle.one_store.specs.Known.{IsStore, stored_root}
+use Rattle.script.specs.Fitting.{QuestionFits}
 use Rattle.script.specs.declared.commands.ScriptLine.{ScriptLine}
 use Rattle.transcript.specs.declared.answers.Answer.{Answer}
 use Rattle.conformance.specs.Kinds.{answer_at}
 use Rattle.conformance.specs.QuestionAnswers.{AnswersTo}
 use Rattle.conformance.specs.scripts.Sessions.{ExtendsWith}
 use Rattle.store_run.specs.declared.stored_versions.Versions.{Versions}
-use Rattle.store_run.specs.Kept.{plan_of, log_of, moment_of, noted_of, world_of, tints_of, AreVersions, HoldsTree}
-use Rattle.store_run.specs.Steps.{StayVersions, AnswersHeldVersion}
+use Rattle.store_run.specs.Kept.{plan_of, log_of, moment_of, noted_of, world_of, tints_of, AreStoredVersions, AreVersions, HoldsTree}
+use Rattle.store_run.specs.Steps.{StayVersions, AnswersHeldVersion, side_of}
 use Rattle.store_run.proofs.Rebuilding.{shows_plainly}
 use Rattle.store_run.proofs.Files.{same_file, shown_in}
 use Rattle.store_run.proofs.KeptWorlds.{same_in_world, same_in_store}
@@ -71,7 +72,7 @@ module _ (v w : Versions) (s : WorldState) (is : world_state v ≡ s) (r : Recor
   pub changed_makes : answer ≡ Done → MakesVersion s.models s.log r.act (log_of w)
   changed_makes done = made_version s.models s.log (log_of w) r answer changed_logs done
 
--- what was replayed of a world whose cells have no tints
+-- a world whose cells have no tints
 pub rests_plain : (v : Versions) (s : WorldState) → world_state v ≡ s → AreStoredAtRest v
     → s.log.coloured ≡ false → AreVersionsAtRest v
 rests_plain v s is rest plain = record {
@@ -79,20 +80,50 @@ rests_plain v s is rest plain = record {
   nothing = rest.nothing;
 }
 
+pub rests_stored : (v : Versions) → AreVersionsAtRest v → AreStoredAtRest v
+rests_stored v rest = record { are = rest.are.stored; nothing = rest.nothing }
+
+-- the world's side
+pub side_tinted : (v : Versions) (s : WorldState) (side : ℕ) → world_state v ≡ s
+    → AreStoredAtRest v → v.models.tint ≡ true → 2 ^ side ≡ 2 ^ v.side / 4
+    → 2 ^ side ≡ side_of_world s.log.coloured (2 ^ s.plan.side)
+side_tinted v s side is rest tinted same =
+    subst (λ (t : WorldState). 2 ^ side ≡ side_of_world t.log.coloured (2 ^ t.plan.side)) is
+    (subst (λ (b : Bool). 2 ^ side ≡ side_of_world b (2 ^ (plan_of v).side)) (sym tinted)
+    (subst (λ (l : ℕ). 2 ^ side ≡ 2 ^ l / 4) rest.are.side same))
+
+pub side_plain : (v : Versions) (s : WorldState) → world_state v ≡ s
+    → AreStoredAtRest v → v.models.tint ≡ false
+    → 2 ^ v.side ≡ side_of_world s.log.coloured (2 ^ s.plan.side)
+side_plain v s is rest plain =
+    subst (λ (t : WorldState). 2 ^ v.side ≡ side_of_world t.log.coloured (2 ^ t.plan.side)) is
+    (subst (λ (b : Bool). 2 ^ v.side ≡ side_of_world b (2 ^ (plan_of v).side)) (sym plain)
+    (ap (λ (l : ℕ). 2 ^ l) rest.are.side))
+
 -- ---- a question about a version
 
 pub asked_told : (v : Versions) (s : WorldState) (version : ℕ) (question : Question)
-    (answer : Answer) → world_state v ≡ s → AreVersions v
+    (answer : Answer) → world_state v ≡ s → AreStoredVersions v
     → AnswersHeldVersion v version question answer
-    → AnswersTo (2 ^ s.plan.side) (world_has s.models s.log.records version)
+    → AnswersTo (side_of_world s.log.coloured (2 ^ s.plan.side))
+    (world_has s.models s.log.records version)
     (world_tint s.models s.log.records version) question answer
 asked_told v s version question answer is are told =
-    subst (λ (t : WorldState). AnswersTo (2 ^ t.plan.side) (world_has t.models t.log.records version)
+    subst (λ (t : WorldState). AnswersTo (side_of_world t.log.coloured (2 ^ t.plan.side))
+    (world_has t.models t.log.records version)
     (world_tint t.models t.log.records version) question answer) is
-    (subst (λ (l : ℕ). AnswersTo (2 ^ l) (world_of v version)
-    (tints_of v version) question answer) are.stored.side
-    (subst (λ (b : Bool). AnswersTo (side_of_world b (2 ^ v.side)) (world_of v version)
-    (tints_of v version) question answer) are.plain told))
+    (subst (λ (l : ℕ). AnswersTo (side_of_world v.models.tint (2 ^ l)) (world_of v version)
+    (tints_of v version) question answer) are.side told)
+
+-- what is asked fits the world that the store keeps
+pub asks_here : (v : Versions) (s : WorldState) (question : Question)
+    → world_state v ≡ s → AreStoredVersions v
+    → QuestionFits (side_of_world s.log.coloured (2 ^ s.plan.side)) question
+    → QuestionFits (side_of v) question
+asks_here v s question is are fits =
+    subst (λ (l : ℕ). QuestionFits (side_of_world v.models.tint (2 ^ l)) question) (sym are.side)
+    (subst (λ (t : WorldState). QuestionFits (side_of_world t.log.coloured (2 ^ t.plan.side)) question)
+    (sym is) fits)
 
 -- ---- the file of a box of a version
 

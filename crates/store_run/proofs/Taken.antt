@@ -43,7 +43,7 @@ pub taken_few : (v : Versions) (n : ℕ) (s : Known) (roots : List Rooted) → A
 taken_few v n s roots are few =
     omega (arith, are.weighs (λ _. 1), weight_few v.store roots, are.few, few)
 
-weight_in : (f : Tree → ℕ) (s : Known) (roots : List Rooted) (x : Rooted) → Contains roots x
+pub weight_in : (f : Tree → ℕ) (s : Known) (roots : List Rooted) (x : Rooted) → Contains roots x
     → weight_of f (root_tree s x.1) ≤ rooted_weight f s roots
 weight_in f s [] x (i, lt, is) = absurd (omega (arith, lt))
 weight_in f s (y ∷ roots) x (zero, lt, is) =
@@ -53,19 +53,20 @@ weight_in f s (y ∷ roots) x (suc i, lt, is) =
     let rest = weight_in f s roots x (i, omega (arith, lt), is) in omega (arith, rest)
 
 -- the tree of a root, where the words are the same
-tree_of_words : (s t : Known) (root : Option Name) → t.words ≡ s.words
+pub tree_of_words : (s t : Known) (root : Option Name) → t.words ≡ s.words
     → root_tree t root ≡ root_tree s root
 tree_of_words s t root words =
     ap (λ (x : Written). tree_at (key_in x) (top x.plan.side) root) words
 
 -- ---- one version after the other
 
-none_in : (x : Rooted) → Contains [] x → ⊥
+pub none_in : (x : Rooted) → Contains [] x → ⊥
 none_in x has = omega (arith, has.1)
 
 pub none_taken : (v : Versions) → HoldsNothing v.store → AreTakenRoots v 0 v.store []
 none_taken v free = record {
   words = refl;
+  only = record { made = refl; met = refl };
   places = λ p le. refl;
   weighs = λ f. free.weighs f;
   few = omega arith;
@@ -74,6 +75,8 @@ none_taken v free = record {
   listed = λ x has. absurd (none_in x has);
   roots_are = λ x has. absurd (none_in x has);
   all = λ p lt kept. absurd (omega (arith, lt));
+  gone = λ x has. absurd (none_in x has);
+  others = λ p gone. refl;
 }
 
 module _ (v : Versions) (n : ℕ) (s : Known) (roots : List Rooted)
@@ -81,6 +84,7 @@ module _ (v : Versions) (n : ℕ) (s : Known) (roots : List Rooted)
   pub one_marked : (HoldsVersion (log_of v) n → ⊥) → AreTakenRoots v (n + 1) s roots
   one_marked gone = record {
     words = are.words;
+    only = are.only;
     places = λ p le. are.places p (omega (arith, le));
     weighs = are.weighs;
     few = let few = are.few in omega (arith, few);
@@ -89,6 +93,8 @@ module _ (v : Versions) (n : ℕ) (s : Known) (roots : List Rooted)
     listed = are.listed;
     roots_are = are.roots_are;
     all = λ p lt kept. go p lt kept (cases_eq p n);
+    gone = are.gone;
+    others = are.others;
   }
     where
       go : (p : ℕ) → p < n + 1 → HoldsVersion (log_of v) p → (p ≡ n) ⊎ (p ≡ n → ⊥)
@@ -131,6 +137,10 @@ module _ (v : Versions) (n : ℕ) (s : Known) (roots : List Rooted)
     pub one_taken : AreTakenRoots v (n + 1) t (roots ++ (n, root) ∷ [])
     one_taken = record {
       words = gives.words ∙ are.words;
+      only = record {
+        made = gives.only.made ∙ are.only.made;
+        met = gives.only.met ∙ are.only.met;
+      };
       places = λ p le.
           gives.elsewhere p (λ same. absurd (omega (arith, le, same)))
           ∙ are.places p (omega (arith, le));
@@ -153,6 +163,14 @@ module _ (v : Versions) (n : ℕ) (s : Known) (roots : List Rooted)
       listed = each (λ x. HoldsVersion (log_of v) x.0) are.listed kept;
       roots_are = each (λ x. x.1 ≡ stored_root v.store.roots x.0) are.roots_are of_old;
       all = λ p lt kept_p. all_more p lt kept_p (cases_eq p n);
+      gone = each (λ x. stored_root t.roots x.0 ≡ None)
+          (λ x has. (let lt = are.below x has in
+          gives.elsewhere x.0 (λ same. absurd (omega (arith, lt, same))) ∙ are.gone x has))
+          gives.here;
+      others = λ p gone.
+          gives.elsewhere p
+          (λ same. absurd (gone (subst (λ (q : ℕ). HoldsVersion (log_of v) q) (sym same) kept)))
+          ∙ are.others p gone;
     }
 
 -- ---- all of them

@@ -13,7 +13,7 @@ use Rattle.conformance.proofs.OfScripts.Going.{goes_to}
 use Rattle.store_run.specs.declared.stored_versions.Versions.{Versions}
 use Rattle.node_words.specs.shapes.Weights.{number_of_trees}
 use Rattle.one_store.specs.Known.{Known}
-use Rattle.store_run.specs.Kept.{plan_of, log_of, moment_of, HoldsNothing, HoldsSame}
+use Rattle.store_run.specs.Kept.{plan_of, log_of, moment_of, AreStoredVersions, HoldsNothing, HoldsSame}
 use Rattle.store_run.specs.Steps.{MakesRoot, SharesRootOfVersion, GainsRecord, WantsFor}
 use Rattle.node_words.specs.shapes.Shape.{Shape}
 use Rattle.node_words.specs.Gathering.{Grew}
@@ -124,25 +124,32 @@ way_replays old u w r false same other takes follows stays lacks = (
 
 -- ---- two versions have one root exactly where they have the same tints
 
+pub roots_same : (v : Versions) (number a b : ℕ) → AreStoredVersions v → IsStore v.store number
+    → HoldsVersion (log_of v) a → HoldsVersion (log_of v) b → (is : Bool)
+    → (IsTrue is ↔ (stored_root v.store.roots a ≡ stored_root v.store.roots b))
+    → IsTrue is ↔ SameTints (side_of_world v.models.tint (2 ^ (plan_of v).side)) (tints_of v a)
+    (tints_of v b)
+roots_same v number a b are st of_a of_b is roots =
+    let sound = versions_sound v number are st in (
+      λ t. subst (λ (l : ℕ). SameTints (side_of_world v.models.tint (2 ^ l)) (tints_of v a)
+          (tints_of v b)) are.side
+          (tints_by_cells v a b are
+          (same_cells (plan_of v) v.models.models _ st.plan.side_low sound a b of_a of_b
+          (roots.0 t))),
+      λ same. roots.1 (same_root (plan_of v) v.models.models _ st.plan.side_low sound a b of_a of_b
+          (cells_by_tints v a b are
+          (subst (λ (l : ℕ). SameTints (side_of_world v.models.tint (2 ^ l)) (tints_of v a)
+          (tints_of v b)) (sym are.side) same))),
+    )
+
 pub same_roots_same : (v : Versions) (number a b : ℕ) → IsReplay v → IsStore v.store number
     → a ≤ moment_of v → b ≤ moment_of v → (is : Bool)
     → (IsTrue is ↔ (stored_root v.store.roots a ≡ stored_root v.store.roots b))
     → IsTrue is ↔ SameTints (side_of_world v.models.tint (2 ^ (plan_of v).side)) (tints_of v a)
     (tints_of v b)
 same_roots_same v number a b replay st low high is roots =
-    let of_a = unmarked_kept v a replay.unmarked low in
-    let of_b = unmarked_kept v b replay.unmarked high in
-    let sound = versions_sound v number replay.are st in (
-      λ t. subst (λ (l : ℕ). SameTints (side_of_world v.models.tint (2 ^ l)) (tints_of v a)
-          (tints_of v b)) replay.are.side
-          (tints_by_cells v a b replay.are
-          (same_cells (plan_of v) v.models.models _ st.plan.side_low sound a b of_a of_b
-          (roots.0 t))),
-      λ same. roots.1 (same_root (plan_of v) v.models.models _ st.plan.side_low sound a b of_a of_b
-          (cells_by_tints v a b replay.are
-          (subst (λ (l : ℕ). SameTints (side_of_world v.models.tint (2 ^ l)) (tints_of v a)
-          (tints_of v b)) (sym replay.are.side) same))),
-    )
+    roots_same v number a b replay.are st (unmarked_kept v a replay.unmarked low)
+    (unmarked_kept v b replay.unmarked high) is roots
 
 -- ---- nothing is held between two calls
 

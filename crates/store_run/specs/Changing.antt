@@ -7,7 +7,8 @@ use Rattle.history_model.specs.declared.histories.Record.{Record}
 use Rattle.history_model.specs.declared.histories.Mark.{Mark}
 use Rattle.history_model.specs.Logs.{Log}
 use Rattle.history_model.specs.Worlds.{is_edit, edited}
-use Rattle.history_model.specs.Moments.{world_has}
+use Rattle.history_model.specs.Moments.{world_has, world_tint}
+use Rattle.history_model.specs.Tints.{tints_by}
 use Rattle.core_laws.specs.contents.Versions.{HoldsVersion, InsertsMark}
 use Rattle.transcript.specs.declared.answers.Answer.{Answer}
 use Rattle.transcript.specs.declared.answers.Answer.TheVariants as answers
@@ -68,7 +69,7 @@ pub data AnswersForget (log : Log) (mark : Mark) : Answer → Log → Type 0 whe
   is_head : mark.version ≡ length log.records → AnswersForget log mark answers.IsHead log
 
 -- there is one version more: it has what the act makes of the one before, or what the version has
--- that an undo or a redo goes to; and each earlier one has what it had
+-- that an undo or a redo goes to; and each earlier one has what it had: cells, and their tints
 pub record MakesVersion (models : List Content) (old : Log) (act : Act) (new : Log) : Type 0 where
   pub one_more : length new.records ≡ length old.records + 1
   pub earlier : (v : ℕ) → v ≤ length old.records → (c : Cell)
@@ -79,3 +80,11 @@ pub record MakesVersion (models : List Content) (old : Log) (act : Act) (new : L
   pub other : (to : ℕ) → GoesToVersion old act to → (c : Cell)
       → world_has models new.records (length old.records + 1) c
       ≡ world_has models old.records to c
+  pub tints_earlier : (v : ℕ) → v ≤ length old.records → (c : Cell)
+      → world_tint models new.records v c ≡ world_tint models old.records v c
+  pub tints_edit : is_edit act ≡ true → (c : Cell)
+      → world_tint models new.records (length old.records + 1) c
+      ≡ tints_by models act (world_tint models old.records (length old.records)) c
+  pub tints_other : (to : ℕ) → GoesToVersion old act to → (c : Cell)
+      → world_tint models new.records (length old.records + 1) c
+      ≡ world_tint models old.records to c

@@ -6,6 +6,7 @@ pub mod Changing
 pub mod Replaying
 pub mod Marked
 pub mod Taken
+pub mod TintFiles
 pub use Rattle.act_rebuilds.specs.questions.AnswersByRoots
 pub use Rattle.one_store.specs.Known
 pub use Rattle.conformance.specs.QuestionAnswers

@@ -1,13 +1,11 @@
 //! The roots of versions, each with a share that is held.
-ghost use Rattle.std.specs.Prelude.{◌≡◌, ◌+◌, ◌<◌, ◌≤◌, IfOk, vec_capacity, vec_len};
-ghost use Rattle.node_words.specs.shapes.Weights.{number_of_trees};
+ghost use Rattle.std.specs.Prelude.{◌≡◌, IfOk};
 ghost use Rattle.one_store.specs.Known.{known_state};
-ghost use Rattle.store_run.specs.Kept.{log_of, moment_of, plan_of, mark_in, AreStoredVersions, HoldsNothing};
+ghost use Rattle.store_run.specs.Kept.{log_of, plan_of, AreStoredVersions, HoldsNothing};
 ghost use Rattle.store_run.specs.Marked.{HoldsVersions};
-ghost use Rattle.store_run.specs.Taken.{AreTakenRoots};
 
+use crate::lent_roots::take_root;
 use crate::stored_versions::Versions;
-use history_model::Mark;
 use node_words::Share;
 use one_store::OneStore;
 use std::alloc::Global;
@@ -34,33 +32,18 @@ impl Versions {
         let Versions { store, marks, .. } = self;
         let mut held = HeldRoots { store, roots };
         for version in 0..versions {
-            held.take(version as u32, marks[version]);
+            take_root(
+                &mut held.store,
+                version as u32,
+                marks[version],
+                &mut held.roots,
+            );
         }
         Ok(held)
     }
 }
 
 impl HeldRoots {
-    // The root of the version leaves its place, where the version has no mark.
-    #[tactic(auto, using(crate::proofs::Taken::version_taken, crate::proofs::Taken::version_passed))]
-    fn take(&mut self, version: u32, mark: Option<Mark>)
-        requires there { version < 65536 }
-        requires few { number_of_trees self.old.store.told.held ≤ 69631 }
-        requires room { vec_len self.old.roots < vec_capacity self.old.roots }
-        ensures taken { (v : Versions) → AreStoredVersions v → version ≤ moment_of v
-            → mark_in v.marks.items version ≡ mark
-            → AreTakenRoots v version self.old.store self.old.roots.items
-            → AreTakenRoots v (version + 1) self.new.store self.new.roots.items }
-        ensures room { vec_capacity self.new.roots ≡ vec_capacity self.old.roots }
-        ensures many { vec_len self.new.roots ≤ vec_len self.old.roots + 1 }
-    {
-        if let Some(_mark) = mark {
-            return;
-        }
-        let root = self.store.take_root(version);
-        self.roots.push_reserved((version, root));
-    }
-
     /// Gives up the roots, and the store with them.
     pub fn give_up(self) {
         let HeldRoots { store: _, roots } = self;

@@ -7,9 +7,11 @@
 #![tactic(auto)]
 
 mod compared;
+mod facts;
 mod floods;
 mod held_roots;
 mod histories;
+mod lent_roots;
 mod lines;
 mod marked;
 mod open_worlds;
@@ -17,6 +19,7 @@ mod replaying;
 mod replays;
 mod seen;
 mod stored_versions;
+mod tint_files;
 
 pub use act_rebuilds::{draw_models, rebuild_act, tell};
 pub use flood::RegionFile;

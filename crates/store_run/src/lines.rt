@@ -5,7 +5,7 @@ ghost use Rattle.history_model.specs.Logs.{FitsWorld, suits_tints};
 ghost use Rattle.node_words.specs.shapes.Weights.{number_of_trees};
 ghost use Rattle.script.specs.declared.commands.Command.TheVariants.{Edit, Forget};
 ghost use Rattle.conformance.specs.Answers.{target_at, mark_of};
-ghost use Rattle.store_run.specs.Kept.{log_of, moment_of, AreStoredVersions, AreVersions, HoldsSame, HasRecordRoom};
+ghost use Rattle.store_run.specs.Kept.{log_of, moment_of, AreStoredVersions, HoldsSame, HasRecordRoom};
 ghost use Rattle.store_run.specs.Answering.{ExtendsBy, nothing_to_go_to};
 ghost use Rattle.store_run.specs.Changing.{Changes, AnswersForget};
 
@@ -17,7 +17,7 @@ use transcript::Answer;
 
 impl Versions {
     /// An edit: full, or the history is, or it becomes the next record.
-    #[tactic(auto, using(crate::proofs::Rebuilding::suits_here, crate::proofs::Rebuilding::suits_still, crate::proofs::Targets::may_edit, crate::proofs::Answering::edit_full, crate::proofs::Answering::edit_done, crate::proofs::Answering::edit_late, crate::proofs::Answering::full_same, crate::proofs::Holding::same_again, crate::proofs::Holding::gained_tree, crate::proofs::Holding::gained_room))]
+    #[tactic(auto, using(crate::proofs::Rebuilding::suits_still, crate::proofs::Targets::may_edit, crate::proofs::Answering::edit_full, crate::proofs::Answering::edit_done, crate::proofs::Answering::edit_late, crate::proofs::Answering::full_same, crate::proofs::Holding::same_again, crate::proofs::Holding::gained_tree, crate::proofs::Holding::gained_room))]
     pub(crate) fn edit<L: Ledger>(
         &mut self,
         session: u16,
@@ -25,13 +25,13 @@ impl Versions {
         act: Act,
         steps: &mut Steps<L>,
     ) -> Answer
-        requires are { AreVersions self.old }
+        requires are { AreStoredVersions self.old }
         requires few { number_of_trees self.old.store.told.held ≤ 2048 }
         requires room { HasRecordRoom self.old }
         requires edit { is_edit act ≡ true }
-        requires plain { suits_tints false act ≡ true }
+        requires suits { suits_tints self.old.models.tint act ≡ true }
         requires fits { FitsWorld (2 ^ self.old.side) self.old.models.models act }
-        ensures are { AreVersions self.new }
+        ensures are { AreStoredVersions self.new }
         ensures goes_on { (once : Bool) → ExtendsBy self.old session
             (record { line = line; command = Edit act once }) result self.new }
         ensures logs { Changes (log_of self.old)
@@ -59,11 +59,11 @@ impl Versions {
     /// it becomes the next record.
     #[tactic(auto, using(crate::proofs::KeptWorlds::way_suits, crate::proofs::Targets::may_go_to, crate::proofs::Answering::go_nowhere, crate::proofs::Answering::go_forgotten, crate::proofs::Answering::go_late, crate::proofs::Answering::go_done, crate::proofs::Answering::go_past, crate::proofs::Answering::went_same, crate::proofs::Holding::same_held, crate::proofs::Rebuilding::shared_tree))]
     pub(crate) fn go(&mut self, session: u16, line: u32, act: Act) -> Answer
-        requires are { AreVersions self.old }
+        requires are { AreStoredVersions self.old }
         requires few { number_of_trees self.old.store.told.held ≤ 2048 }
         requires room { HasRecordRoom self.old }
         requires other { is_edit act ≡ false }
-        ensures are { AreVersions self.new }
+        ensures are { AreStoredVersions self.new }
         ensures goes_on { (once : Bool) → ExtendsBy self.old session
             (record { line = line; command = Edit act once }) result self.new }
         ensures logs { Changes (log_of self.old)
@@ -109,9 +109,9 @@ impl Versions {
         version: u32,
         steps: &mut Steps<L>,
     ) -> Answer
-        requires are { AreVersions self.old }
+        requires are { AreStoredVersions self.old }
         requires few { number_of_trees self.old.store.told.held ≤ 2048 }
-        ensures are { AreVersions self.new }
+        ensures are { AreStoredVersions self.new }
         ensures goes_on { ExtendsBy self.old session
             (record { line = line; command = Forget version }) result self.new }
         ensures logs { AnswersForget (log_of self.old)

@@ -130,9 +130,7 @@ impl<L: Ledger> MarkedReplay<L> {
     }
 
     /// The world that stands open behind what was replayed.
-    #[tactic(auto, using(crate::proofs::Opening::rests_plain))]
     pub fn into_world(self) -> OpenWorld
-        requires plain { self.log.coloured ≡ false }
         ensures { result ≡ self }
     {
         let MarkedReplay { versions, .. } = self;

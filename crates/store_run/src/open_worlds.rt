@@ -1,12 +1,13 @@
 //! A world that stands open, and is changed and asked one call at a time.
-ghost use Rattle.std.specs.Prelude.{◌≡◌, ◌↔◌, ◌<◌, ◌≤◌, ◌^◌, Bool, [], Some, IfOk, IfSome, IsTrue, OnErr, length, option_copied, true, false};
+ghost use Rattle.std.specs.Prelude.{◌≡◌, ◌↔◌, ◌/◌, ◌<◌, ◌≤◌, ◌^◌, Bool, [], Some, IfOk, IfSome, IsTrue, OnErr, length, option_copied, true, false};
 ghost use Rattle.std.specs.List.{slice_get};
 ghost use Rattle.vw_cell.specs.Places.{FitsAt, IsInBox};
 ghost use Rattle.vw_cell.specs.Extents.{IsExtent};
 ghost use Rattle.vox_read.specs.Contents.{AreModels};
 ghost use Rattle.history_model.specs.Journal.{journal_of};
-ghost use Rattle.history_model.specs.Logs.{FitsWorld, suits_tints};
+ghost use Rattle.history_model.specs.Logs.{FitsWorld, side_of_world, suits_tints};
 ghost use Rattle.history_model.specs.Moments.{world_has, world_tint};
+ghost use Rattle.history_model.specs.Tints.{SameTints};
 ghost use Rattle.measure.specs.Changes.{differs};
 ghost use Rattle.core_laws.specs.contents.Versions.{HoldsVersion, SameWorld};
 ghost use Rattle.extract.specs.Saved.{file_of_box};
@@ -22,15 +23,17 @@ ghost use Rattle.conformance.specs.scripts.Sessions.{ExtendsWith};
 ghost use Rattle.one_store.specs.Known.{stored_root};
 ghost use Rattle.store_run.specs.Answering.{ExtendsBy};
 ghost use Rattle.store_run.specs.Changing.{Changes, AnswersForget, MakesVersion};
-ghost use Rattle.store_run.specs.Kept.{log_of, moment_of, world_of, HasRecordRoom, AreVersions, HoldsTree};
-ghost use Rattle.store_run.specs.Steps.{LeavesAll, StaysSeen, AnswersHeldVersion};
-ghost use Rattle.store_run.specs.Worlds.{AreVersionsAtRest, size_of, world_state};
+ghost use Rattle.store_run.specs.Kept.{log_of, moment_of, world_of, HasRecordRoom, AreVersions, HoldsTree, IsLargeStore};
+ghost use Rattle.store_run.specs.Steps.{LeavesAll, StaysSeen, AnswersHeldVersion, side_of};
+ghost use Rattle.store_run.specs.TintFiles.{file_of_tints};
+ghost use Rattle.store_run.specs.Worlds.{AreVersionsAtRest, AreStoredAtRest, size_of, world_state};
 
 use crate::compared::changes_over;
 use crate::floods::region_over;
 use crate::lines::is_edit;
 use crate::seen::surface_over;
 use crate::stored_versions::{VersionFound, Versions};
+use crate::tint_files::tint_file_over;
 use extract::box_file;
 use flood::RegionFile;
 use history_model::{Act, Question, journal_text};
@@ -52,14 +55,14 @@ const FIRST_ROOM: usize = 1_024;
 /// room for.
 #[derive(Drop)]
 pub struct OpenWorld {
-    versions: Versions,
+    pub(crate) versions: Versions,
 }
 
 impl Model for OpenWorld {
     ghost use Rattle.std.specs.Coded.{codes};
     ghost use Rattle.node_words.specs.shapes.ShapeCode.{coded_shape};
     ghost use Rattle.one_store.specs.notes.StoreNotes.{coded_wanted};
-    ghost use Rattle.store_run.specs.Worlds.{WorldState, world_state, AreVersionsAtRest};
+    ghost use Rattle.store_run.specs.Worlds.{WorldState, world_state, AreStoredAtRest};
 
     ghost Value = { WorldState };
 
@@ -67,38 +70,56 @@ impl Model for OpenWorld {
 
     ghost view = { λ w. world_state w.versions };
 
-    ghost invariant = { λ w. AreVersionsAtRest w.versions };
+    ghost invariant = { λ w. AreStoredAtRest w.versions };
 }
 
 impl OpenWorld {
-    /// An empty world with these models.
-    #[tactic(auto, using(crate::proofs::Beginning::begun_plain))]
-    pub fn begin(alloc: Global, plan: &Plan, models: Models) -> Result<OpenWorld, Memory>
-        requires { AreModels models }
+    /// An empty world with these models, whose cells have tints, or have none.
+    pub fn begin(
+        alloc: Global,
+        plan: &Plan,
+        models: Models,
+        tint: bool,
+    ) -> Result<OpenWorld, Memory>
+        requires models { AreModels models }
+        requires large { IsLargeStore tint plan.now.side }
         ensures { IfOk result (λ w. w ≡ record {
           plan = plan.now;
           models = models;
-          log = record { side = plan.now.side; coloured = false; records = []; marks = [] };
+          log = record { side = plan.now.side; coloured = tint; records = []; marks = [] };
           noted = record { made = []; met = [] };
         }) }
     {
-        let versions = Versions::begin(alloc, plan, models, FIRST_ROOM, false)?;
+        let versions = Versions::begin(alloc, plan, models, FIRST_ROOM, tint)?;
         Ok(OpenWorld { versions })
     }
 
     // Versions, of which nothing is held.
     pub(crate) fn of(versions: Versions) -> OpenWorld
-        requires { AreVersionsAtRest versions }
+        requires { AreStoredAtRest versions }
         ensures { result ≡ world_state versions }
     {
         OpenWorld { versions }
     }
 
-    /// The world's side.
-    pub fn side(&self) -> Side
-        ensures { result ≡ self.now.plan.side }
+    /// Whether cells have tints.
+    pub fn tint(&self) -> bool
+        ensures { result ≡ self.now.log.coloured }
     {
-        self.versions.side
+        self.versions.models.tint()
+    }
+
+    /// The world's side: its store's, or a quarter of that where cells have tints.
+    #[tactic(auto, using(crate::proofs::Rebuilding::large_tints, crate::proofs::Opening::side_tinted, crate::proofs::Opening::side_plain))]
+    pub fn side(&self) -> Side
+        ensures { 2 ^ result
+            ≡ side_of_world self.now.log.coloured (2 ^ self.now.plan.side) }
+    {
+        let side = self.versions.side;
+        if self.versions.models.tint() {
+            return quarter(side);
+        }
+        side
     }
 
     /// The size of the model of this number, counted from 0.
@@ -128,7 +149,7 @@ impl OpenWorld {
 
     /// Does what the act asks for, as this line of this session.
     pub fn change(&mut self, session: u16, line: u32, act: Act) -> Result<Answer, Memory>
-        requires plain { suits_tints false act ≡ true }
+        requires suits { suits_tints self.old.log.coloured act ≡ true }
         requires fits { FitsWorld (2 ^ self.old.plan.side) self.old.models act }
         ensures plan { self.new.plan ≡ self.old.plan }
         ensures models { self.new.models ≡ self.old.models }
@@ -165,11 +186,12 @@ impl OpenWorld {
     }
 
     /// What the question asks of a version.
-    #[tactic(auto, using(crate::proofs::Opening::asked_told))]
+    #[tactic(auto, using(crate::proofs::Opening::asked_told, crate::proofs::Opening::asks_here))]
     pub fn ask(&mut self, version: u32, question: Question) -> Answer
         requires kept { HoldsVersion self.old.log version }
-        requires fits { QuestionFits (2 ^ self.old.plan.side) question }
-        ensures tells { AnswersTo (2 ^ self.old.plan.side)
+        requires fits { QuestionFits
+            (side_of_world self.old.log.coloured (2 ^ self.old.plan.side)) question }
+        ensures tells { AnswersTo (side_of_world self.old.log.coloured (2 ^ self.old.plan.side))
             (world_has self.old.models self.old.log.records version)
             (world_tint self.old.models self.old.log.records version) question result }
         ensures same { self.new ≡ self.old }
@@ -177,12 +199,16 @@ impl OpenWorld {
         ask_over::<Brand>(&mut self.versions, version, question, Blank::new(1))
     }
 
-    /// Whether two versions have the same cells.
-    #[tactic(auto, using(crate::proofs::Opening::same_by_roots))]
+    /// Whether two versions have the same tints: the same cells, where cells have none.
     pub fn same(&self, v: u32, w: u32) -> bool
         requires first { HoldsVersion self.now.log v }
         requires second { HoldsVersion self.now.log w }
-        ensures { IsTrue result ↔ SameWorld (2 ^ self.now.plan.side)
+        ensures tints { IsTrue result
+            ↔ SameTints (side_of_world self.now.log.coloured (2 ^ self.now.plan.side))
+            (world_tint self.now.models self.now.log.records v)
+            (world_tint self.now.models self.now.log.records w) }
+        ensures cells { self.now.log.coloured ≡ false
+            → IsTrue result ↔ SameWorld (2 ^ self.now.plan.side)
             (world_has self.now.models self.now.log.records v)
             (world_has self.now.models self.now.log.records w) }
     {
@@ -190,8 +216,10 @@ impl OpenWorld {
         self.versions.has_same_roots(v, w)
     }
 
-    /// The VOX file of a box of a version.
+    /// The VOX file of a box of a version of a world without tints.
+    #[tactic(auto, using(crate::proofs::Opening::rests_plain, crate::proofs::Opening::rests_stored))]
     pub fn file(&mut self, alloc: Global, version: u32, part: Boxed) -> Result<Vec<u8>, Memory>
+        requires plain { self.old.log.coloured ≡ false }
         requires kept { HoldsVersion self.old.log version }
         requires inside { FitsAt part.at part.size (2 ^ self.old.plan.side) }
         requires small { (part.size.x ≤ 256) × (part.size.y ≤ 256) × (part.size.z ≤ 256) }
@@ -202,9 +230,27 @@ impl OpenWorld {
         file_over::<Brand>(&mut self.versions, alloc, version, part, Blank::new(1))
     }
 
-    /// The least box of all cells in which two versions differ, and none exactly where none does.
-    #[tactic(auto, using(crate::proofs::Comparing::changes_told))]
+    /// The VOX file of a box of a version of a world with tints, in which each set cell has its tint
+    /// as its colour.
+    #[tactic(auto, using(crate::proofs::TintFiles::rests_tinted, crate::proofs::TintFiles::part_here))]
+    pub fn tint_file(&mut self, alloc: Global, version: u32, part: Boxed) -> Result<Vec<u8>, Memory>
+        requires tinted { self.old.log.coloured ≡ true }
+        requires kept { HoldsVersion self.old.log version }
+        requires inside { FitsAt part.at part.size (2 ^ self.old.plan.side / 4) }
+        requires small { (part.size.x ≤ 256) × (part.size.y ≤ 256) × (part.size.z ≤ 256) }
+        ensures file { IfOk result (λ file. file.items ≡ file_of_tints part
+            (world_has self.old.models self.old.log.records version)
+            (world_tint self.old.models self.old.log.records version)) }
+        ensures same { self.new ≡ self.old }
+    {
+        tint_file_over::<Brand>(&mut self.versions, alloc, version, part, Blank::new(1))
+    }
+
+    /// The least box of all cells in which two versions of a world without tints differ, and none
+    /// exactly where none does.
+    #[tactic(auto, using(crate::proofs::Comparing::changes_told, crate::proofs::Opening::rests_plain, crate::proofs::Opening::rests_stored))]
     pub fn changes(&mut self, v: u32, w: u32) -> Option<Boxed>
+        requires plain { self.old.log.coloured ≡ false }
         requires first { HoldsVersion self.old.log v }
         requires second { HoldsVersion self.old.log w }
         ensures extent { IsExtent (2 ^ self.old.plan.side)
@@ -215,15 +261,17 @@ impl OpenWorld {
         changes_over::<Brand>(&mut self.versions, v, w, Blank::new(1))
     }
 
-    /// The set cells of a box of a version that have a bare side, told from the box's corner, by
-    /// rising z, then y, then x, each with its bare sides in the place of its colour.
-    #[tactic(auto, using(crate::proofs::Seeing::surface_told))]
+    /// The set cells of a box of a version of a world without tints that have a bare side, told
+    /// from the box's corner, by rising z, then y, then x, each with its bare sides in the place of
+    /// its colour.
+    #[tactic(auto, using(crate::proofs::Seeing::surface_told, crate::proofs::Opening::rests_plain, crate::proofs::Opening::rests_stored))]
     pub fn surface(
         &mut self,
         alloc: Global,
         version: u32,
         part: Boxed,
     ) -> Result<Vec<Voxel>, Memory>
+        requires plain { self.old.log.coloured ≡ false }
         requires kept { HoldsVersion self.old.log version }
         requires inside { FitsAt part.at part.size (2 ^ self.old.plan.side) }
         requires small { (part.size.x ≤ 256) × (part.size.y ≤ 256) × (part.size.z ≤ 256) }
@@ -235,8 +283,9 @@ impl OpenWorld {
         surface_over::<Brand>(&mut self.versions, alloc, version, part, Blank::new(1))
     }
 
-    /// The cells of a box of a version that ways through its clear cells join with one of its
-    /// cells: how many they are, and their VOX file.
+    /// The cells of a box of a version of a world without tints that ways through its clear cells
+    /// join with one of its cells: how many they are, and their VOX file.
+    #[tactic(auto, using(crate::proofs::Opening::rests_plain, crate::proofs::Opening::rests_stored))]
     pub fn flood(
         &mut self,
         alloc: Global,
@@ -244,6 +293,7 @@ impl OpenWorld {
         part: Boxed,
         from: Cell,
     ) -> Result<RegionFile, Memory>
+        requires plain { self.old.log.coloured ≡ false }
         requires kept { HoldsVersion self.old.log version }
         requires inside { FitsAt part.at part.size (2 ^ self.old.plan.side) }
         requires small { (part.size.x ≤ 256) × (part.size.y ≤ 256) × (part.size.z ≤ 256) }
@@ -271,6 +321,18 @@ impl OpenWorld {
     }
 }
 
+// A quarter of a side.
+fn quarter(side: Side) -> Side
+    requires { 4 ≤ side }
+    ensures { 2 ^ result ≡ 2 ^ side / 4 }
+{
+    let _exponent = side.exponent();
+    match Side::new(side.cells() / 4) {
+        Some(world) => world,
+        None => unreachable!(),
+    }
+}
+
 // Each call has a ledger of its own.
 fn change_over<L: Ledger>(
     versions: &mut Versions,
@@ -279,14 +341,14 @@ fn change_over<L: Ledger>(
     act: Act,
     blank: Blank,
 ) -> Answer
-    requires rest { AreVersionsAtRest versions.old }
+    requires rest { AreStoredAtRest versions.old }
     requires room { HasRecordRoom versions.old }
-    requires plain { suits_tints false act ≡ true }
+    requires suits { suits_tints versions.old.models.tint act ≡ true }
     requires fits { FitsWorld (2 ^ versions.old.side) versions.old.models.models act }
     requires name { blank.name ≡ L.name }
     requires parts { blank.parts ≡ L.parts }
     requires some { 0 < L.parts }
-    ensures rest { AreVersionsAtRest versions.new }
+    ensures rest { AreStoredAtRest versions.new }
     ensures logs { Changes (log_of versions.old)
         (record { session = session; line = line; act = act }) result (log_of versions.new) }
     ensures goes_on { (once : Bool) → ExtendsBy versions.old session
@@ -307,11 +369,11 @@ fn forget_over<L: Ledger>(
     version: u32,
     blank: Blank,
 ) -> Answer
-    requires rest { AreVersionsAtRest versions.old }
+    requires rest { AreStoredAtRest versions.old }
     requires name { blank.name ≡ L.name }
     requires parts { blank.parts ≡ L.parts }
     requires some { 0 < L.parts }
-    ensures rest { AreVersionsAtRest versions.new }
+    ensures rest { AreStoredAtRest versions.new }
     ensures logs { AnswersForget (log_of versions.old)
         (mark_of version (moment_of versions.old) session line) result (log_of versions.new) }
     ensures goes_on { ExtendsBy versions.old session
@@ -321,20 +383,19 @@ fn forget_over<L: Ledger>(
     versions.forget_version(session, line, version, &mut steps)
 }
 
-#[tactic(auto, using(crate::proofs::Rebuilding::question_here))]
 fn ask_over<L: Ledger>(
     versions: &mut Versions,
     version: u32,
     question: Question,
     blank: Blank,
 ) -> Answer
-    requires rest { AreVersionsAtRest versions.old }
+    requires rest { AreStoredAtRest versions.old }
     requires kept { HoldsVersion (log_of versions.old) version }
-    requires fits { QuestionFits (2 ^ versions.old.side) question }
+    requires fits { QuestionFits (side_of versions.old) question }
     requires name { blank.name ≡ L.name }
     requires parts { blank.parts ≡ L.parts }
     requires some { 0 < L.parts }
-    ensures rest { AreVersionsAtRest versions.new }
+    ensures rest { AreStoredAtRest versions.new }
     ensures leaves { LeavesAll versions.old versions.new }
     ensures tells { AnswersHeldVersion versions.old version question result }
 {

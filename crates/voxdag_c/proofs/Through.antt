@@ -1,5 +1,5 @@
 -- What a call does through a handle, from what it does to the world that is held.
-use Rattle.std.proofs.Common.{◌≡◌, ℕ, Option, Some, None, List, sym, ◌∙◌, ap, subst}
+use Rattle.std.proofs.Common.{◌≡◌, Bool, ℕ, Option, Some, None, List, sym, ◌∙◌, ap, subst}
 use Rattle.std.proofs.Common.{ℤ, SFits, w16, to_z, of_z}
 use Rattle.vw_cell.specs.declared.cells.Cell.{Cell}
 use Rattle.history_model.specs.Ways.{Heading, heading_of}
@@ -48,26 +48,26 @@ by_steps {w} {version} {from} {Written} {Untouched} {status} dx dy dz x y z asks
 
 -- ---- opening and closing
 
-module _ (side cap keep : ℕ) (bytes : List ℕ) where
+module _ (coloured : Bool) (side cap keep : ℕ) (bytes : List ℕ) where
   pub opens_again : (old new : Option CWorld) (w : CWorld) → Some w ≡ old → new ≡ Some w
-      → OpensHandle side cap keep bytes old 13 new
+      → OpensHandle coloured side cap keep bytes old 13 new
   opens_again old new w was now =
-      subst (λ (o : Option CWorld). OpensHandle side cap keep bytes o 13 new) was
-      (subst (λ (n : Option CWorld). OpensHandle side cap keep bytes (Some w) 13 n) (sym now)
+      subst (λ (o : Option CWorld). OpensHandle coloured side cap keep bytes o 13 new) was
+      (subst (λ (n : Option CWorld). OpensHandle coloured side cap keep bytes (Some w) 13 n) (sym now)
       (OpensHandle.is_open w))
 
   pub opens_begun : (old new : Option CWorld) (w : CWorld) → old ≡ None → new ≡ Some w
-      → IsBegun side cap keep bytes w → OpensHandle side cap keep bytes old 0 new
+      → IsBegun coloured side cap keep bytes w → OpensHandle coloured side cap keep bytes old 0 new
   opens_begun old new w was now begun =
-      subst (λ (o : Option CWorld). OpensHandle side cap keep bytes o 0 new) (sym was)
-      (subst (λ (n : Option CWorld). OpensHandle side cap keep bytes None 0 n) (sym now)
+      subst (λ (o : Option CWorld). OpensHandle coloured side cap keep bytes o 0 new) (sym was)
+      (subst (λ (n : Option CWorld). OpensHandle coloured side cap keep bytes None 0 n) (sym now)
       (OpensHandle.begun w begun))
 
   pub opens_not : (old new : Option CWorld) (status : ℕ) → old ≡ None → new ≡ None
-      → Refuses side cap bytes status → OpensHandle side cap keep bytes old status new
+      → Refuses coloured side cap bytes status → OpensHandle coloured side cap keep bytes old status new
   opens_not old new status was now why =
-      subst (λ (o : Option CWorld). OpensHandle side cap keep bytes o status new) (sym was)
-      (subst (λ (n : Option CWorld). OpensHandle side cap keep bytes None status n) (sym now)
+      subst (λ (o : Option CWorld). OpensHandle coloured side cap keep bytes o status new) (sym was)
+      (subst (λ (n : Option CWorld). OpensHandle coloured side cap keep bytes None status n) (sym now)
       (OpensHandle.refused status why))
 
 pub closes_none : (old new : Option CWorld) → old ≡ None → new ≡ None → ClosesHandle old 1 new

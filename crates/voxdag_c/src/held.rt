@@ -6,6 +6,7 @@
 //! `specs/held/Calls.antt`.
 
 mod asks;
+mod facts;
 mod handle;
 mod kept;
 mod looks;
@@ -13,12 +14,15 @@ mod openings;
 mod outputs;
 mod parts;
 mod places;
+mod plans;
 mod shown;
 pub mod statuses;
+mod tints;
 mod worlds;
 
 pub use handle::{Handle, handles_cross};
 pub use kept::WorldPtr;
 pub use places::{CBox, CPlace};
+pub use plans::CPlan;
 pub use shown::CShown;
 pub use worlds::CWorld;

@@ -8,26 +8,30 @@
 
 mod held;
 
-ghost use Rattle.std.specs.Prelude.{◌≡◌, false, ⊤};
+ghost use Rattle.std.specs.Prelude.{◌≡◌, false, true, ⊤};
 ghost use Rattle.history_model.specs.Ways.{heading_of};
 ghost use Rattle.history_model.specs.declared.acts.Act.TheVariants.{Fill, Erase, Carve, Copy, Stamp, Undo, Redo};
 ghost use Rattle.history_model.specs.declared.acts.Act.TheVariants as acts;
+ghost use Rattle.history_model.specs.declared.acts.TintAct.TheVariants as tints;
 ghost use Rattle.history_model.specs.declared.questions.Question.TheVariants as questions;
 ghost use Rattle.transcript.specs.declared.answers.Answer.TheVariants as answers;
 ghost use Rattle.voxdag_c.specs.held.Places.{cell_of_c_place, box_of, ball_of, extent_of, hit_of};
 ghost use Rattle.voxdag_c.specs.held.Calls.{ByHandle, WorldChanges, WorldForgets, WorldAsks, WorldCompares, WorldSaves, WorldJournals, OpensHandle};
-ghost use Rattle.voxdag_c.specs.held.Calls.{WorldDiffers, WorldShows, WorldFloods};
+ghost use Rattle.voxdag_c.specs.held.Calls.{ByKind, WorldDiffers, WorldShows, WorldFloods, WorldTints, act_here};
 ghost use Rattle.voxdag_c.specs.held.Calls.{PutsNewest, PutsSize, WritesNothing, ClosesHandle};
+ghost use Rattle.voxdag_c.specs.held.Facts.{WorldFiles, PutsPlan};
 ghost use Rattle.voxdag_c.specs.held.GoingOn.{GoesOnInHandle};
 
-use crate::held::{CBox, CPlace, CShown, CWorld, Handle, statuses as status};
+use crate::held::{CBox, CPlace, CPlan, CShown, CWorld, Handle, statuses as status};
 use std::alloc::Global;
 
 /// Sets the cells of a box.
 #[tactic(auto, using(crate::proofs::Through::through_closed, crate::proofs::Through::through_open))]
 #[unsafe(no_mangle)]
 pub extern "C" fn voxdag_c_fill(alloc: Global, handle: &mut Handle, part: &CBox) -> u32
-    ensures { ByHandle ⊤ (λ w status v. WorldChanges w (Fill (box_of part.now)) status v)
+    ensures { ByHandle ⊤
+        (λ w status v. WorldChanges w (act_here w (Fill (box_of part.now)))
+        status v)
         handle.old.kept.value result handle.new.kept.value }
 {
     match handle.take(alloc) {
@@ -44,7 +48,9 @@ pub extern "C" fn voxdag_c_fill(alloc: Global, handle: &mut Handle, part: &CBox)
 #[tactic(auto, using(crate::proofs::Through::through_closed, crate::proofs::Through::through_open))]
 #[unsafe(no_mangle)]
 pub extern "C" fn voxdag_c_erase(alloc: Global, handle: &mut Handle, part: &CBox) -> u32
-    ensures { ByHandle ⊤ (λ w status v. WorldChanges w (Erase (box_of part.now)) status v)
+    ensures { ByHandle ⊤
+        (λ w status v. WorldChanges w (act_here w (Erase (box_of part.now)))
+        status v)
         handle.old.kept.value result handle.new.kept.value }
 {
     match handle.take(alloc) {
@@ -67,7 +73,8 @@ pub extern "C" fn voxdag_c_ball(
     radius: u32,
 ) -> u32
     ensures { ByHandle ⊤
-        (λ w status v. WorldChanges w (acts.Ball (ball_of centre.now radius)) status v)
+        (λ w status v. WorldChanges w (act_here w (acts.Ball (ball_of centre.now radius)))
+        status v)
         handle.old.kept.value result handle.new.kept.value }
 {
     match handle.take(alloc) {
@@ -89,7 +96,9 @@ pub extern "C" fn voxdag_c_carve(
     centre: &CPlace,
     radius: u32,
 ) -> u32
-    ensures { ByHandle ⊤ (λ w status v. WorldChanges w (Carve (ball_of centre.now radius)) status v)
+    ensures { ByHandle ⊤
+        (λ w status v. WorldChanges w (act_here w (Carve (ball_of centre.now radius)))
+        status v)
         handle.old.kept.value result handle.new.kept.value }
 {
     match handle.take(alloc) {
@@ -107,7 +116,8 @@ pub extern "C" fn voxdag_c_carve(
 #[unsafe(no_mangle)]
 pub extern "C" fn voxdag_c_copy(alloc: Global, handle: &mut Handle, part: &CBox, to: &CPlace) -> u32
     ensures { ByHandle ⊤
-        (λ w status v. WorldChanges w (Copy (box_of part.now) (cell_of_c_place to.now)) status v)
+        (λ w status v. WorldChanges w (act_here w (Copy (box_of part.now) (cell_of_c_place to.now)))
+        status v)
         handle.old.kept.value result handle.new.kept.value }
 {
     match handle.take(alloc) {
@@ -130,7 +140,8 @@ pub extern "C" fn voxdag_c_stamp(
     at: &CPlace,
 ) -> u32
     ensures { ByHandle ⊤
-        (λ w status v. WorldChanges w (Stamp number (cell_of_c_place at.now)) status v)
+        (λ w status v. WorldChanges w (act_here w (Stamp number (cell_of_c_place at.now)))
+        status v)
         handle.old.kept.value result handle.new.kept.value }
 {
     match handle.take(alloc) {
@@ -206,6 +217,24 @@ pub extern "C" fn voxdag_c_newest(alloc: Global, handle: &mut Handle, version: &
         None => status::CLOSED,
         Some(mut world) => {
             let status = world.put_newest(version);
+            handle.put(world);
+            status
+        }
+    }
+}
+
+/// What the world is.
+#[tactic(auto, using(crate::proofs::Through::through_closed, crate::proofs::Through::through_open))]
+#[unsafe(no_mangle)]
+pub extern "C" fn voxdag_c_about(alloc: Global, handle: &mut Handle, plan: &mut CPlan) -> u32
+    ensures { ByHandle (plan.new ≡ plan.old)
+        (λ w status v. (v ≡ w) × PutsPlan w status plan.new)
+        handle.old.kept.value result handle.new.kept.value }
+{
+    match handle.take(alloc) {
+        None => status::CLOSED,
+        Some(mut world) => {
+            let status = world.put_plan(plan);
             handle.put(world);
             status
         }
@@ -369,7 +398,7 @@ pub extern "C" fn voxdag_c_ray(
     }
 }
 
-/// Whether two versions have the same cells.
+/// Whether two versions have the same tints: the same cells, where cells have none.
 #[tactic(auto, using(crate::proofs::Through::through_closed, crate::proofs::Through::through_open))]
 #[unsafe(no_mangle)]
 pub extern "C" fn voxdag_c_same(
@@ -442,6 +471,29 @@ pub extern "C" fn voxdag_c_journal(
     }
 }
 
+/// The file of the versions that aren't forgotten, and how many bytes it has.
+#[tactic(auto, using(crate::proofs::Through::through_closed, crate::proofs::Through::through_open))]
+#[unsafe(no_mangle)]
+pub extern "C" fn voxdag_c_dag(
+    alloc: Global,
+    handle: &mut Handle,
+    out: &mut [u8],
+    needed: &mut usize,
+) -> u32
+    ensures { ByHandle (WritesNothing out.old out.new needed.old needed.new)
+        (λ w status v. (v ≡ w) × WorldFiles w out.old out.new needed.old needed.new status)
+        handle.old.kept.value result handle.new.kept.value }
+{
+    match handle.take(alloc) {
+        None => status::CLOSED,
+        Some(mut world) => {
+            let status = world.dag(alloc, out, needed);
+            handle.put(world);
+            status
+        }
+    }
+}
+
 /// The least box of all cells in which two versions differ, where they do.
 #[tactic(auto, using(crate::proofs::Through::through_closed, crate::proofs::Through::through_open))]
 #[unsafe(no_mangle)]
@@ -454,10 +506,11 @@ pub extern "C" fn voxdag_c_changes(
     least: &mut CBox,
 ) -> u32
     ensures { ByHandle ((some.new ≡ some.old) × (least.new ≡ least.old))
-        (λ w status v. (v ≡ w) × WorldDiffers w a b
+        (λ w status v. (v ≡ w) × ByKind false w ((some.new ≡ some.old) × (least.new ≡ least.old))
+        (WorldDiffers w a b
         (λ found. (found ≡ extent_of some.new least.new)
         × (some.new ≡ false → least.new ≡ least.old))
-        ((some.new ≡ some.old) × (least.new ≡ least.old)) status)
+        ((some.new ≡ some.old) × (least.new ≡ least.old))) status)
         handle.old.kept.value result handle.new.kept.value }
 {
     match handle.take(alloc) {
@@ -482,8 +535,9 @@ pub extern "C" fn voxdag_c_surface(
     needed: &mut usize,
 ) -> u32
     ensures { ByHandle (WritesNothing out.old out.new needed.old needed.new)
-        (λ w status v. (v ≡ w) × WorldShows w version (box_of part.now)
-        out.old out.new needed.old needed.new status)
+        (λ w status v. (v ≡ w)
+        × ByKind false w (WritesNothing out.old out.new needed.old needed.new)
+        (WorldShows w version (box_of part.now) out.old out.new needed.old needed.new) status)
         handle.old.kept.value result handle.new.kept.value }
 {
     match handle.take(alloc) {
@@ -512,14 +566,89 @@ pub extern "C" fn voxdag_c_flood(
 ) -> u32
     ensures { ByHandle
         ((cells.new ≡ cells.old) × WritesNothing out.old out.new needed.old needed.new)
-        (λ w status v. (v ≡ w) × WorldFloods w version (box_of part.now)
-        (cell_of_c_place from.now) cells.old cells.new out.old out.new needed.old needed.new status)
+        (λ w status v. (v ≡ w) × ByKind false w
+        ((cells.new ≡ cells.old) × WritesNothing out.old out.new needed.old needed.new)
+        (WorldFloods w version (box_of part.now) (cell_of_c_place from.now) cells.old cells.new
+        out.old out.new needed.old needed.new) status)
         handle.old.kept.value result handle.new.kept.value }
 {
     match handle.take(alloc) {
         None => status::CLOSED,
         Some(mut world) => {
             let status = world.flood(alloc, version, *part, *from, cells, out, needed);
+            handle.put(world);
+            status
+        }
+    }
+}
+
+/// Gives the cells of a box a tint, in a world whose cells have tints.
+#[tactic(auto, using(crate::proofs::Through::through_closed, crate::proofs::Through::through_open))]
+#[unsafe(no_mangle)]
+pub extern "C" fn voxdag_c_fill_tint(
+    alloc: Global,
+    handle: &mut Handle,
+    part: &CBox,
+    tint: u32,
+) -> u32
+    ensures { ByHandle ⊤
+        (λ w status v. WorldTints w (tints.Fill (box_of part.now) tint) tint status v)
+        handle.old.kept.value result handle.new.kept.value }
+{
+    match handle.take(alloc) {
+        None => status::CLOSED,
+        Some(mut world) => {
+            let status = world.fill_tint(*part, tint);
+            handle.put(world);
+            status
+        }
+    }
+}
+
+/// Gives the cells of a ball a tint, in a world whose cells have tints.
+#[tactic(auto, using(crate::proofs::Through::through_closed, crate::proofs::Through::through_open))]
+#[unsafe(no_mangle)]
+pub extern "C" fn voxdag_c_ball_tint(
+    alloc: Global,
+    handle: &mut Handle,
+    centre: &CPlace,
+    radius: u32,
+    tint: u32,
+) -> u32
+    ensures { ByHandle ⊤
+        (λ w status v. WorldTints w (tints.Ball (ball_of centre.now radius) tint) tint status v)
+        handle.old.kept.value result handle.new.kept.value }
+{
+    match handle.take(alloc) {
+        None => status::CLOSED,
+        Some(mut world) => {
+            let status = world.ball_tint(*centre, radius, tint);
+            handle.put(world);
+            status
+        }
+    }
+}
+
+/// The tint of a cell of a version, 0 where it is clear, in a world whose cells have tints.
+#[tactic(auto, using(crate::proofs::Through::through_closed, crate::proofs::Through::through_open))]
+#[unsafe(no_mangle)]
+pub extern "C" fn voxdag_c_colour(
+    alloc: Global,
+    handle: &mut Handle,
+    version: u32,
+    place: &CPlace,
+    tint: &mut u8,
+) -> u32
+    ensures { ByHandle (tint.new ≡ tint.old)
+        (λ w status v. (v ≡ w) × ByKind true w (tint.new ≡ tint.old)
+        (λ told. WorldAsks w version (questions.Colour (cell_of_c_place place.now))
+        (λ a. a ≡ answers.Colour tint.new) (tint.new ≡ tint.old) told) status)
+        handle.old.kept.value result handle.new.kept.value }
+{
+    match handle.take(alloc) {
+        None => status::CLOSED,
+        Some(mut world) => {
+            let status = world.colour(version, *place, tint);
             handle.put(world);
             status
         }
@@ -537,13 +666,15 @@ pub extern "C" fn voxdag_c_open(
     cap: u16,
     file: &[u8],
 ) -> u32
-    ensures { OpensHandle side cap 0 file.now handle.old.kept.value result handle.new.kept.value }
+    ensures { OpensHandle false side cap 0 file.now handle.old.kept.value result
+        handle.new.kept.value }
 {
-    open_as(alloc, handle, side, cap, 0, file)
+    open_as(alloc, handle, side, cap, 0, false, file)
 }
 
-/// The same of a world that keeps so many of its last versions, where 0 stands for all: as a change
-/// is made, the version that falls out of them is forgotten.
+/// The same of a world whose cells have tints, or have none, and that keeps so many of its last
+/// versions, where 0 stands for all: as a change is made, the version that falls out of them is
+/// forgotten. With tints a side is 1,024 at most.
 #[unsafe(no_mangle)]
 pub extern "C" fn voxdag_c_open_as(
     alloc: Global,
@@ -551,23 +682,32 @@ pub extern "C" fn voxdag_c_open_as(
     side: u32,
     cap: u16,
     keep: u32,
+    tint: bool,
     file: &[u8],
 ) -> u32
-    ensures { OpensHandle side cap keep file.now handle.old.kept.value result
+    ensures { OpensHandle tint side cap keep file.now handle.old.kept.value result
         handle.new.kept.value }
 {
-    open_as(alloc, handle, side, cap, keep, file)
+    open_as(alloc, handle, side, cap, keep, tint, file)
 }
 
-fn open_as(alloc: Global, handle: &mut Handle, side: u32, cap: u16, keep: u32, file: &[u8]) -> u32
-    ensures { OpensHandle side cap keep file.now handle.old.kept.value result
+fn open_as(
+    alloc: Global,
+    handle: &mut Handle,
+    side: u32,
+    cap: u16,
+    keep: u32,
+    tint: bool,
+    file: &[u8],
+) -> u32
+    ensures { OpensHandle tint side cap keep file.now handle.old.kept.value result
         handle.new.kept.value }
 {
     if let Some(world) = handle.take(alloc) {
         handle.put(world);
         return status::IS_OPEN;
     }
-    match CWorld::from_bytes(alloc, side, cap, keep, file) {
+    match CWorld::from_bytes(alloc, side, cap, keep, tint, file) {
         Ok(world) => {
             handle.put(world);
             status::DONE

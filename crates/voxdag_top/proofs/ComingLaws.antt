@@ -62,17 +62,17 @@ EndFollows v (Refused r) = Follows {T = Completed} v (Err r)
 
 -- a status that may come, or one of a shelf that failed
 abbrev Comes : Option Request → Verdict → ℕ → Type 0
-Comes a v result = MayCome a v result ⊎ HasFailedShelf result
+Comes a v result = MayCome a v result ⊎ HasFailedShelf v result
 
 failed_input_or : (a : Option Request) (v : Verdict) (result : ℕ) → IsOr FailedInput result
     → Comes a v result
 failed_input_or a v result (inl is) = inr (inl is)
 failed_input_or a v result (inr other) = inl (inl (inr other))
 
-failed_output_or : (a : Option Request) (v : Verdict) (result : ℕ) → IsOr FailedOutput result
-    → Comes a v result
-failed_output_or a v result (inl is) = inr (inr is)
-failed_output_or a v result (inr other) = inl (inl (inr other))
+failed_output_or : (a : Option Request) (v : Verdict) (result : ℕ) → v ≡ Fine
+    → IsOr FailedOutput result → Comes a v result
+failed_output_or a v result fine (inl is) = inr (inr (fine, is))
+failed_output_or a v result fine (inr other) = inl (inl (inr other))
 
 read_status : (a : Option Request) (v : Verdict) (why : ReadRefused) (name : List ℕ) (result : ℕ)
     → FollowsRead v why name → IsOr (input_status why) result → Comes a v result
@@ -82,10 +82,11 @@ read_status a v reads.Failed name result follows is = failed_input_or a v result
 read_status a v reads.Memory name result follows is =
     inl (inl (memory_or (status_for v) result is))
 
-write_status : (a : Option Request) (v : Verdict) (r : OutputRefused) (result : ℕ)
+write_status : (a : Option Request) (v : Verdict) (r : OutputRefused) (result : ℕ) → v ≡ Fine
     → IsOr (output_status r) result → Comes a v result
-write_status a v (outputs.Failed line) result is = failed_output_or a v result is
-write_status a v outputs.Memory result is = inl (inl (memory_or (status_for v) result is))
+write_status a v (outputs.Failed line) result fine is = failed_output_or a v result fine is
+write_status a v outputs.Memory result fine is =
+    inl (inl (memory_or (status_for v) result is))
 
 -- of a command with a store of its own alone
 filled_has_store : (a : Option Request) (full : Full) (old new : ShelfState)
@@ -118,7 +119,7 @@ status_follows a v (Refused (Input r)) result old new ends follows is =
 status_follows a v (Refused (Text r)) result old new ends follows is =
     inl (text_comes a v r result old new ends follows is)
 status_follows a v (Refused (Output r)) result old new ends follows is =
-    write_status a v r result is
+    write_status a v r result follows is
 
 command_follows : (a : Request) (e : Ending) (old new : ShelfState) (files : Files) (v : Verdict)
     → CommandEnds e a old new → old.files ≡ Some files → JudgesWords (Some a) files v
@@ -179,14 +180,14 @@ output_calm : (a : Option Request) (old new : Outside) → WriteFailed a old new
 output_calm None old new told = absurd told.breaks
 output_calm (Some a) old new told = told.breaks.stops.1
 
-failed_calm : (a : Option Request) (left : Option Closed) (old new : Outside) (n : ℕ)
-    → StatusSays n a left old new → HasFailedShelf n → Rose old.shelf.faults new.shelf.faults
-failed_calm a left old new n says (inl is) =
+failed_calm : (a : Option Request) (left : Option Closed) (old new : Outside) (v : Verdict) (n : ℕ)
+    → StatusSays n a left old new → HasFailedShelf v n → Rose old.shelf.faults new.shelf.faults
+failed_calm a left old new v n says (inl is) =
     input_calm a old new (said_at n a left old new says FailedInput is)
-failed_calm a left old new n says (inr is) =
-    output_calm a old new (said_at n a left old new says FailedOutput is)
+failed_calm a left old new v n says (inr is) =
+    output_calm a old new (said_at n a left old new says FailedOutput is.1)
 
-calm_by : (a : Option Request) (v : Verdict) (n : ℕ) → (HasFailedShelf n → ⊥) → Comes a v n
+calm_by : (a : Option Request) (v : Verdict) (n : ℕ) → (HasFailedShelf v n → ⊥) → Comes a v n
     → MayCome a v n
 calm_by a v n calm (inl may) = may
 calm_by a v n calm (inr fell) = absurd (calm fell)
@@ -198,5 +199,5 @@ pub calm_comes : (words : List (List ℕ)) (left : Option Closed) (old new : Out
     → JudgesWords (request_of words) files v → MayCome (request_of words) v n
 calm_comes words left old new n promised files v told calm judges =
     calm_by (request_of words) v n
-    (λ fell. calm (failed_calm (request_of words) left old new n promised.says fell))
+    (λ fell. calm (failed_calm (request_of words) left old new v n promised.says fell))
     (promised.comes files v told judges)

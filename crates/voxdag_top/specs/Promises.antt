@@ -17,7 +17,7 @@ pub record Promises (words : List (List ℕ)) (left : Option Closed) (old new : 
   pub usage_comes : request_of words ≡ None → IsOr Misuse result
   pub comes : (files : Files) (v : Verdict) → old.shelf.files ≡ Some files
       → JudgesWords (request_of words) files v
-      → MayCome (request_of words) v result ⊎ HasFailedShelf result
+      → MayCome (request_of words) v result ⊎ HasFailedShelf v result
 
 -- the same, whatever world was closed
 abbrev pub Promised : List (List ℕ) → Outside → Outside → ℕ → Type 0

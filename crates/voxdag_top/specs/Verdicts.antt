@@ -43,7 +43,8 @@ MayCome a v result =
     IsOr (status_for v) result
     ⊎ (HasStore a × (v ≡ Fine) × (result ≡ status_number FilledStore))
 
--- the shelf failed at an input or at an output
-abbrev pub HasFailedShelf : ℕ → Type 0
-HasFailedShelf result =
-    (result ≡ status_number FailedInput) ⊎ (result ≡ status_number FailedOutput)
+-- the status of a shelf that failed at an input; or, where nothing is wrong, at an output
+abbrev pub HasFailedShelf : Verdict → ℕ → Type 0
+HasFailedShelf v result =
+    (result ≡ status_number FailedInput)
+    ⊎ ((v ≡ Fine) × (result ≡ status_number FailedOutput))

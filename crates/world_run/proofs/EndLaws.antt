@@ -43,7 +43,7 @@ module _ (t : TableState) (closed : Closed) (low : 2 ≤ t.plan.side) (high : t.
       (closed_tells t closed low high ends).are_numbers
 
   world_numbers : AreNumbers t.models closed.history
-          (take (top closed.history.side + 1) closed.live)
+      (take (top closed.history.side + 1) closed.live)
   world_numbers = numbers_are (take (top closed.history.side + 1) closed.live)
       (top closed.history.side) (ap (λ (s : ℕ). s - 2) side_is) refl
 

@@ -12,14 +12,14 @@ use Rattle.transcript.specs.declared.answers.Answer.{Answer}
 use Rattle.transcript.specs.declared.answers.Answer.TheVariants as answers
 use Rattle.conformance.specs.Answers.{mark_of}
 use Rattle.conformance.specs.Kinds.{answer_at}
-use Rattle.conformance.specs.QuestionAnswers.{AnswersTo, is, count, faces, extent, hit}
+use Rattle.conformance.specs.QuestionAnswers.{AnswersTo, is, colour, count, faces, extent, hit}
 use Rattle.history_model.specs.Worlds as worlds
 use Rattle.conformance.specs.scripts.Sessions.{ExtendsWith}
 use Rattle.retain.specs.Retained.{falls_out}
 use Rattle.store_run.specs.Answering.{nothing_to_go_to}
 use Rattle.store_run.specs.Changing.{Changes, AnswersForget, MakesVersion}
 use Rattle.voxdag_c.specs.declared.held.worlds.CWorld.{CWorld}
-use Rattle.voxdag_c.specs.held.Calls.{WorldChanges, WorldForgets, KeepsLast, WorldAsks, Answered, CantBeAsked, IsActAnswered, CountsLine, record_of, held_side, call_status, is_in, cells_in, faces_answered, extent_in, hit_in}
+use Rattle.voxdag_c.specs.held.Calls.{WorldChanges, WorldForgets, KeepsLast, WorldAsks, Answered, CantBeAsked, IsActAnswered, CountsLine, record_of, store_side, call_status, is_in, cells_in, faces_answered, extent_in, tint_in_answer, hit_in}
 
 nothing_not_done : (act : Act) → nothing_to_go_to act ≡ answers.Done → ⊥
 nothing_not_done Undo e = cc
@@ -42,7 +42,7 @@ done_or_not old new r _ (Changes.forgotten _ to goes gone eq) = inr ((λ e. cc),
 done_or_not old new r _ (Changes.nothing _ other none eq) = inr (nothing_not_done r.act, eq)
 
 module _ (w v : CWorld) (act : Act) (answer : Answer)
-    (fits : FitsWorld (held_side w) w.open.models act)
+    (fits : FitsWorld (store_side w) w.open.models act)
     (plan : v.open.plan ≡ w.open.plan)
     (models : v.open.models ≡ w.open.models) (keep : v.keep ≡ w.keep)
     (line : CountsLine answer w.line v.line)
@@ -77,7 +77,7 @@ module _ (w v : CWorld) (act : Act) (answer : Answer)
       WorldChanges.made v u fits (subst (λ (a : Answer). IsActAnswered w act a v) done answered)
       (makes done) keeps
 
-pub lacks_memory : (w v : CWorld) (act : Act) → FitsWorld (held_side w) w.open.models act → v ≡ w
+pub lacks_memory : (w v : CWorld) (act : Act) → FitsWorld (store_side w) w.open.models act → v ≡ w
     → WorldChanges w act 2 v
 lacks_memory w v act fits same =
     subst (λ (u : CWorld). WorldChanges w act 2 u) (sym same) (WorldChanges.memory fits)
@@ -113,6 +113,11 @@ module _ (side : ℕ) (world : worlds.World) (tints : Tints) where
   pub tells_is : (c : _) (answer : Answer) → AnswersTo side world tints (questions.Get c) answer
       → answer ≡ answers.Is (is_in answer)
   tells_is _ _ (is c set e) = refl
+
+  pub tells_colour : (c : _) (answer : Answer)
+      → AnswersTo side world tints (questions.Colour c) answer
+      → answer ≡ answers.Colour (tint_in_answer answer)
+  tells_colour _ _ (colour c tint e) = refl
 
   pub tells_count : (b : _) (answer : Answer) → AnswersTo side world tints (questions.Count b) answer
       → answer ≡ answers.Count (cells_in answer)

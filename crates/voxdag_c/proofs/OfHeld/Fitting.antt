@@ -47,51 +47,51 @@ box_is_small side at size low fits = (
 
 -- ---- what was tested of the world's own side
 
-module _ (side own : ℕ) (eq : side ≡ own) where
+module _ (side cells : ℕ) (eq : 2 ^ side ≡ cells) where
   pub box_fits : (s : CBox) (b : Boxed) → b ≡ box_of s
       → (IsSome (Some b) ↔ FitsAt (cell_of_c_place s.at) (cell_of_c_place s.size) (2 ^ side))
-      → FitsAt b.at b.size (2 ^ own)
+      → FitsAt b.at b.size cells
   box_fits s b is exactly =
-      subst (λ (n : ℕ). FitsAt b.at b.size (2 ^ n)) eq
+      subst (λ (n : ℕ). FitsAt b.at b.size n) eq
       (subst (λ (x : Boxed). FitsAt x.at x.size (2 ^ side)) (sym is) (exactly.0 refl))
 
   pub box_leaves : (s : CBox)
       → (IsSome {T = Boxed} None ↔ FitsAt (cell_of_c_place s.at) (cell_of_c_place s.size) (2 ^ side))
-      → ¬ FitsAt (cell_of_c_place s.at) (cell_of_c_place s.size) (2 ^ own)
+      → ¬ FitsAt (cell_of_c_place s.at) (cell_of_c_place s.size) cells
   box_leaves s exactly fits = false≢true
-      (exactly.1 (subst (λ (n : ℕ). FitsAt (cell_of_c_place s.at) (cell_of_c_place s.size) (2 ^ n))
+      (exactly.1 (subst (λ (n : ℕ). FitsAt (cell_of_c_place s.at) (cell_of_c_place s.size) n)
       (sym eq) fits))
 
   pub ball_fits : (p : CPlace) (radius : ℕ) (b : Ball) → b ≡ ball_of p radius
       → (IsSome (Some b) ↔ (IsInWorld (2 ^ side) (cell_of_c_place p) × (radius ≤ 4095)))
-      → IsInWorld (2 ^ own) b.centre × (b.radius ≤ 4095)
+      → IsInWorld cells b.centre × (b.radius ≤ 4095)
   ball_fits p radius b is exactly =
-      subst (λ (n : ℕ). IsInWorld (2 ^ n) b.centre × (b.radius ≤ 4095)) eq
+      subst (λ (n : ℕ). IsInWorld n b.centre × (b.radius ≤ 4095)) eq
       (subst (λ (x : Ball). IsInWorld (2 ^ side) x.centre × (x.radius ≤ 4095)) (sym is)
       (exactly.0 refl))
 
   pub ball_leaves : (p : CPlace) (radius : ℕ)
       → (IsSome {T = Ball} None ↔ (IsInWorld (2 ^ side) (cell_of_c_place p) × (radius ≤ 4095)))
-      → ¬ (IsInWorld (2 ^ own) (cell_of_c_place p) × (radius ≤ 4095))
+      → ¬ (IsInWorld cells (cell_of_c_place p) × (radius ≤ 4095))
   ball_leaves p radius exactly fits = false≢true
-      (exactly.1 (subst (λ (n : ℕ). IsInWorld (2 ^ n) (cell_of_c_place p) × (radius ≤ 4095))
+      (exactly.1 (subst (λ (n : ℕ). IsInWorld n (cell_of_c_place p) × (radius ≤ 4095))
       (sym eq) fits))
 
   pub cell_fits : (p : CPlace) (c : Cell) → c ≡ cell_of_c_place p
-      → (IsSome (Some c) ↔ IsInWorld (2 ^ side) (cell_of_c_place p)) → IsInWorld (2 ^ own) c
+      → (IsSome (Some c) ↔ IsInWorld (2 ^ side) (cell_of_c_place p)) → IsInWorld cells c
   cell_fits p c is exactly =
-      subst (λ (n : ℕ). IsInWorld (2 ^ n) c) eq
+      subst (λ (n : ℕ). IsInWorld n c) eq
       (subst (λ (x : Cell). IsInWorld (2 ^ side) x) (sym is) (exactly.0 refl))
 
   pub cell_leaves : (p : CPlace) → (IsSome {T = Cell} None ↔ IsInWorld (2 ^ side) (cell_of_c_place p))
-      → ¬ IsInWorld (2 ^ own) (cell_of_c_place p)
+      → ¬ IsInWorld cells (cell_of_c_place p)
   cell_leaves p exactly fits = false≢true
-      (exactly.1 (subst (λ (n : ℕ). IsInWorld (2 ^ n) (cell_of_c_place p)) (sym eq) fits))
+      (exactly.1 (subst (λ (n : ℕ). IsInWorld n (cell_of_c_place p)) (sym eq) fits))
 
   pub cell_lies : (p : CPlace) (c : Cell)
       → (IsSome (Some c) ↔ IsInWorld (2 ^ side) (cell_of_c_place p))
-      → IsInWorld (2 ^ own) (cell_of_c_place p)
-  cell_lies p c exactly = subst (λ (n : ℕ). IsInWorld (2 ^ n) (cell_of_c_place p)) eq (exactly.0 refl)
+      → IsInWorld cells (cell_of_c_place p)
+  cell_lies p c exactly = subst (λ (n : ℕ). IsInWorld n (cell_of_c_place p)) eq (exactly.0 refl)
 
 -- a step of 16 bits is what its bits stand for
 pub same_steps : (dx dy dz : ℤ) → SFits w16 dx → SFits w16 dy → SFits w16 dz
@@ -99,6 +99,15 @@ pub same_steps : (dx dy dz : ℤ) → SFits w16 dx → SFits w16 dy → SFits w1
     (to_z w16 (of_z w16 dz)) ≡ heading_of dx dy dz
 same_steps dx dy dz x y z =
     λ i. heading_of (to_z-of_z w16 dx x i) (to_z-of_z w16 dy y i) (to_z-of_z w16 dz z i)
+
+-- a box and the one of its size that goes to a place
+pub copy_fits : (cells : ℕ) (part : CBox) (to : CPlace) (b there : Boxed) → b ≡ box_of part
+    → there ≡ box_of (record { at = to; size = part.size }) → FitsAt b.at b.size cells
+    → FitsAt there.at there.size cells → FitsAt b.at b.size cells × FitsAt there.at b.size cells
+copy_fits cells part to b there same is fits other =
+    let size : there.size ≡ b.size =
+    ap (λ (x : Boxed). x.size) is ∙ ap (λ (x : Boxed). x.size) (sym same) in
+    (fits, subst (λ (s : Cell). FitsAt there.at s cells) size other)
 
 -- a model of this size fits where a box of its size does
 pub model_fits : (models : List Content) (m side : ℕ) (size at : Cell)
@@ -134,38 +143,38 @@ has_size models m size is none = none-some size (sym (is ∙ ap size_of none))
 
 -- ---- files
 
-pub file_fits : (own : ℕ) (s : CBox) (b : Boxed) → b ≡ box_of s → FitsAt b.at b.size (2 ^ own)
-    → (b.size.x ≤ 256) × (b.size.y ≤ 256) × (b.size.z ≤ 256) → FitsFile (2 ^ own) (box_of s)
-file_fits own s b same inside small =
-    subst (λ (x : Boxed). FitsFile (2 ^ own) x) same (record { inside = inside; small = small })
+pub file_fits : (cells : ℕ) (s : CBox) (b : Boxed) → b ≡ box_of s → FitsAt b.at b.size cells
+    → (b.size.x ≤ 256) × (b.size.y ≤ 256) × (b.size.z ≤ 256) → FitsFile cells (box_of s)
+file_fits cells s b same inside small =
+    subst (λ (x : Boxed). FitsFile cells x) same (record { inside = inside; small = small })
 
-pub file_large : (own : ℕ) (s : CBox) (b : Boxed) → b ≡ box_of s
+pub file_large : (cells : ℕ) (s : CBox) (b : Boxed) → b ≡ box_of s
     → (false ≡ true ↔ ((b.size.x ≤ 256) × (b.size.y ≤ 256) × (b.size.z ≤ 256)))
-    → ¬ FitsFile (2 ^ own) (box_of s)
-file_large own s b same exactly fits =
+    → ¬ FitsFile cells (box_of s)
+file_large cells s b same exactly fits =
     false≢true (exactly.1
     (subst (λ (x : Boxed). (x.size.x ≤ 256) × (x.size.y ≤ 256) × (x.size.z ≤ 256))
     (sym same) fits.small))
 
 -- ---- regions
 
-pub region_fits : (own : ℕ) (s : CBox) (b : Boxed) (p : CPlace) (c : Cell) → b ≡ box_of s
-    → c ≡ cell_of_c_place p → FitsAt b.at b.size (2 ^ own)
+pub region_fits : (cells : ℕ) (s : CBox) (b : Boxed) (p : CPlace) (c : Cell) → b ≡ box_of s
+    → c ≡ cell_of_c_place p → FitsAt b.at b.size cells
     → ((b.size.x ≤ 256) × (b.size.y ≤ 256) × (b.size.z ≤ 256)) × IsInBox b c
-    → FitsRegion (2 ^ own) (box_of s) (cell_of_c_place p)
-region_fits own s b p c same at inside fits = record {
-  part_fits = file_fits own s b same inside fits.0;
+    → FitsRegion cells (box_of s) (cell_of_c_place p)
+region_fits cells s b p c same at inside fits = record {
+  part_fits = file_fits cells s b same inside fits.0;
   start = subst (λ (x : Boxed). IsInBox x (cell_of_c_place p)) same
       (subst (λ (q : Cell). IsInBox b q) at fits.1);
 }
 
-pub region_leaves : (own : ℕ) (s : CBox) (b : Boxed) (p : CPlace) (c : Cell) → b ≡ box_of s
+pub region_leaves : (cells : ℕ) (s : CBox) (b : Boxed) (p : CPlace) (c : Cell) → b ≡ box_of s
     → c ≡ cell_of_c_place p
     →
     (false ≡ true
     ↔ (((b.size.x ≤ 256) × (b.size.y ≤ 256) × (b.size.z ≤ 256)) × IsInBox b c))
-    → ¬ FitsRegion (2 ^ own) (box_of s) (cell_of_c_place p)
-region_leaves own s b p c same at exactly fits =
+    → ¬ FitsRegion cells (box_of s) (cell_of_c_place p)
+region_leaves cells s b p c same at exactly fits =
     false≢true (exactly.1 (
       subst (λ (x : Boxed). (x.size.x ≤ 256) × (x.size.y ≤ 256) × (x.size.z ≤ 256)) (sym same)
           fits.part_fits.small,

@@ -85,21 +85,20 @@ few_at p models log (histories.Full full) says = tt
 few_at p models log histories.Memory says = tt
 
 module _ (cap keep : ℕ) (models : List Content) (log : Log) (has : HasJournal log) (p : Layout)
-    (ok : IsCapAsked cap) (plain : log.coloured ≡ false) (asked : IsPlanAsked log.side cap p) where
+    (ok : IsCapAsked cap) (asked : IsPlanAsked log.side cap p) where
   pub history_refused : (why : HistoryRefused) (old new status : ℕ)
       → RefusesHistoryOver p models log why → PutsWhy why old new status
       → (bytes journal : List ℕ) → IsToldOver bytes journal models log
       → RefusesToGoOn cap bytes journal old new status
   history_refused (histories.Illegal n) old new status says puts bytes journal told =
       subst (λ (k : ℕ). RefusesToGoOn cap bytes journal old new k) (sym puts.1)
-      (RefusesToGoOn.not_legal models log n ok told plain says puts.0)
+      (RefusesToGoOn.not_legal models log n ok told says puts.0)
   history_refused (histories.Full full) old new status says puts bytes journal told =
       subst (λ (k : ℕ). RefusesToGoOn cap bytes journal old new k) (sym puts.1)
       (RefusesToGoOn.full models log ok
       (record {
         told = told;
         legal = legal_whole models log (told_marks log has) says.0;
-        plain = plain;
         plan = p;
         asked = asked;
         bucket = full;
@@ -127,7 +126,6 @@ module _ (cap keep : ℕ) (models : List Content) (log : Log) (has : HasJournal 
         (subst (λ (s : ℕ). IsLegal (2 ^ s) models log)
         (sym (ap (λ (q : Layout). q.side) plan ∙ asked.side_is))
         (legal_whole models log (told_marks log has) records)));
-    plain = ap (λ (l : Log). l.coloured) is ∙ plain;
     plan =
         subst (λ (l : Log). IsPlanAsked l.side cap w.open.plan) (sym is)
         (subst (λ (q : Layout). IsPlanAsked log.side cap q) (sym plan) asked);

@@ -11,13 +11,18 @@ use Rattle.vox_chunk.specs.declared.faults.VoxFault.TheVariants.{Memory}
 use Rattle.vox_read.specs.Contents.{Content}
 use Rattle.vox_read.specs.Files.{ReadsModels}
 use Rattle.history_model.specs.declared.acts.Act.{Act}
-use Rattle.history_model.specs.declared.acts.Act.TheVariants.{Stamp}
+use Rattle.history_model.specs.declared.acts.Act.TheVariants.{Stamp, Tint}
+use Rattle.history_model.specs.declared.acts.TintAct.{TintAct}
+use Rattle.history_model.specs.declared.acts.TintAct.TheVariants as tints
 use Rattle.history_model.specs.declared.histories.Record.{Record}
 use Rattle.history_model.specs.declared.questions.Question.{Question}
 use Rattle.history_model.specs.declared.questions.Question.TheVariants.{Get, Colour, Count, Bounds, Faces, Ray}
 use Rattle.history_model.specs.Journal.{journal_of}
-use Rattle.history_model.specs.Logs.{Log, FitsWorld}
+use Rattle.history_model.specs.Logs.{Log, FitsWorld, side_of_world}
 use Rattle.history_model.specs.Moments.{world_has, world_tint}
+use Rattle.history_model.specs.Spelling.{tinted_act}
+use Rattle.history_model.specs.Tints.{Tints, IsTint, SameTints}
+use Rattle.history_model.specs.Worlds.{World}
 use Rattle.core_laws.specs.contents.Versions.{HoldsVersion, SameWorld}
 use Rattle.measure.specs.Changes.{differs}
 use Rattle.extract.specs.Saved.{file_of_box}
@@ -35,15 +40,19 @@ use Rattle.conformance.specs.Kinds.{answer_at}
 use Rattle.conformance.specs.QuestionAnswers.{AnswersTo}
 use Rattle.conformance.specs.scripts.Sessions.{ExtendsWith}
 use Rattle.store_run.specs.Changing.{Changes, AnswersForget, MakesVersion}
+use Rattle.store_run.specs.TintFiles.{file_of_tints}
 use Rattle.store_run.specs.Worlds.{size_of}
 use Rattle.voxdag_c.specs.declared.held.places.CPlace.{CPlace}
 use Rattle.voxdag_c.specs.declared.held.shown.CShown.{CShown}
 use Rattle.voxdag_c.specs.declared.held.worlds.CWorld.{CWorld}
 use Rattle.voxdag_c.specs.held.Places.{cell_of_c_place, shown_of}
 
--- the world's side in cells, which cells a version has, and their tints
+-- the world's side in cells, that of its store, which cells a version has, and their tints
 abbrev pub held_side : CWorld → ℕ
-held_side w = 2 ^ w.open.plan.side
+held_side w = side_of_world w.open.log.coloured (2 ^ w.open.plan.side)
+
+abbrev pub store_side : CWorld → ℕ
+store_side w = 2 ^ w.open.plan.side
 
 abbrev pub cells_of_version : CWorld → ℕ → Cell → Bool
 cells_of_version w version = world_has w.open.models w.open.log.records version
@@ -58,7 +67,23 @@ pub data ByHandle (Untouched : Type 0) (Does : CWorld → ℕ → CWorld → Typ
   does : (w v : CWorld) (status : ℕ) → Does w status v
       → ByHandle Untouched Does (Some w) status (Some v)
 
+-- a call for worlds of one kind, with tints or without: no other world is touched, nor an output
+pub data ByKind (coloured : Bool) (w : CWorld) (Untouched : Type 0) (Does : ℕ → Type 0)
+    : ℕ → Type 0 where
+  other_kind : w.open.log.coloured ≢ coloured → Untouched → ByKind coloured w Untouched Does 20
+  does : (status : ℕ) → w.open.log.coloured ≡ coloured → Does status
+      → ByKind coloured w Untouched Does status
+
 -- ---- changes
+
+-- an act as a world takes it: where cells have tints with tint 1, as a line of a script that names
+-- none
+abbrev pub act_of_kind : Bool → Act → Act
+act_of_kind true act = tinted_act 1 act
+act_of_kind false act = act
+
+abbrev pub act_here : CWorld → Act → Act
+act_here w act = act_of_kind w.open.log.coloured act
 
 -- the number that C gets for an answer to a change
 abbrev pub call_status : Answer → ℕ
@@ -105,6 +130,7 @@ pub record IsActAnswered (w : CWorld) (act : Act) (answer : Answer) (v : CWorld)
 -- the model that is stamped is there
 abbrev pub HasItsModel : List Content → Act → Type 0
 HasItsModel models (Stamp number at) = slice_get models number ≢ None
+HasItsModel models (Tint (tints.Stamp number at)) = slice_get models number ≢ None
 HasItsModel models other = ⊤
 
 -- a version is forgotten, or not
@@ -123,20 +149,28 @@ pub data KeepsLast (w : CWorld) : CWorld → Type 0 where
       → WorldForgets w version status v → KeepsLast w v
 
 -- a change of the world: its model isn't there, it leaves the world, or memory lacks, and nothing
--- changed; or it was made, and what fell out then was forgotten; or the answer says why not, and the
--- history is what it was. Memory may lack at any change: nothing here says that it doesn't
+-- changed; or it was made, and what fell out then was forgotten; or the answer says why not, and
+-- the history is what it was. Memory may lack at any change: nothing here says that it doesn't
 pub data WorldChanges (w : CWorld) (act : Act) : ℕ → CWorld → Type 0 where
   no_model : ¬ HasItsModel w.open.models act → WorldChanges w act 14 w
-  outside : HasItsModel w.open.models act → ¬ FitsWorld (held_side w) w.open.models act
+  outside : HasItsModel w.open.models act → ¬ FitsWorld (store_side w) w.open.models act
       → WorldChanges w act 3 w
-  memory : FitsWorld (held_side w) w.open.models act → WorldChanges w act 2 w
-  made : (v u : CWorld) → FitsWorld (held_side w) w.open.models act
+  memory : FitsWorld (store_side w) w.open.models act → WorldChanges w act 2 w
+  made : (v u : CWorld) → FitsWorld (store_side w) w.open.models act
       → IsActAnswered w act answers.Done v
       → MakesVersion w.open.models w.open.log act v.open.log → KeepsLast v u
       → WorldChanges w act 0 u
-  refused : (v : CWorld) (answer : Answer) → FitsWorld (held_side w) w.open.models act
+  refused : (v : CWorld) (answer : Answer) → FitsWorld (store_side w) w.open.models act
       → answer ≢ answers.Done → IsActAnswered w act answer v → v.open.log ≡ w.open.log
       → WorldChanges w act (call_status answer) v
+
+-- a change by a tint: the world has none, or the number is none, and nothing changed; or it is a
+-- change as any other
+pub data WorldTints (w : CWorld) (act : TintAct) (tint : ℕ) : ℕ → CWorld → Type 0 where
+  other_kind : w.open.log.coloured ≡ false → WorldTints w act tint 20 w
+  bad_tint : w.open.log.coloured ≡ true → ¬ IsTint tint → WorldTints w act tint 21 w
+  changes : (status : ℕ) (v : CWorld) → w.open.log.coloured ≡ true → IsTint tint
+      → WorldChanges w (Tint act) status v → WorldTints w act tint status v
 
 -- ---- questions
 
@@ -180,7 +214,8 @@ pub data WorldAsks (w : CWorld) (version : ℕ) (question : Question) (Written :
   gone : (status : ℕ) → CantBeAsked w version question status → Untouched
       → WorldAsks w version question Written Untouched status
 
--- what an answer says: of a cell, of a number of cells or faces, of a least box, of a hit
+-- what an answer says: of a cell, of its tint, of a number of cells or faces, of a least box, of a
+-- hit
 abbrev pub is_in : Answer → Bool
 is_in (answers.Is set) = set
 is_in other = false
@@ -197,14 +232,20 @@ abbrev pub extent_in : Answer → Option Boxed
 extent_in (answers.Extent least) = least
 extent_in other = None
 
+abbrev pub tint_in_answer : Answer → ℕ
+tint_in_answer (answers.Colour tint) = tint
+tint_in_answer other = 0
+
 abbrev pub hit_in : Answer → Option Cell
 hit_in (answers.Hit hit) = hit
 hit_in other = None
 
--- whether two versions have the same cells
+-- whether two versions have the same tints: the same cells, where cells have none
 pub data WorldCompares (w : CWorld) (a b : ℕ) (old new : Bool) : ℕ → Type 0 where
   told : HoldsVersion w.open.log a → HoldsVersion w.open.log b
-      → (IsTrue new ↔ SameWorld (held_side w) (cells_of_version w a) (cells_of_version w b))
+      → (IsTrue new ↔ SameTints (held_side w) (tints_at w a) (tints_at w b))
+      → (w.open.log.coloured ≡ false
+      → IsTrue new ↔ SameWorld (held_side w) (cells_of_version w a) (cells_of_version w b))
       → WorldCompares w a b old new 0
   first : (status : ℕ) → IsGone w.open.log a status → new ≡ old
       → WorldCompares w a b old new status
@@ -247,11 +288,19 @@ pub record FitsFile (side : ℕ) (part : Boxed) : Type 0 where
   pub inside : FitsAt part.at part.size side
   pub small : (part.size.x ≤ 256) × (part.size.y ≤ 256) × (part.size.z ≤ 256)
 
--- the VOX file of a box of a version
+-- the VOX file of a box of a version: with each cell's tint as its colour, or with colour 1
+abbrev pub file_by_kind : Bool → Boxed → World → Tints → List ℕ
+file_by_kind true part cells held = file_of_tints part cells held
+file_by_kind false part cells held = file_of_box part cells
+
+abbrev pub file_of_version : CWorld → ℕ → Boxed → List ℕ
+file_of_version w version part =
+    file_by_kind w.open.log.coloured part (cells_of_version w version) (tints_at w version)
+
 pub data WorldSaves (w : CWorld) (version : ℕ) (part : Boxed) (old new : List ℕ)
     (before needed : ℕ) : ℕ → Type 0 where
   made : (status : ℕ) → HoldsVersion w.open.log version → FitsFile (held_side w) part
-      → WritesBytes (file_of_box part (cells_of_version w version)) old new needed status
+      → WritesBytes (file_of_version w version part) old new needed status
       → WorldSaves w version part old new before needed status
   memory : HoldsVersion w.open.log version → FitsFile (held_side w) part
       → WritesNothing old new before needed → WorldSaves w version part old new before needed 2
@@ -303,8 +352,8 @@ pub record FitsRegion (side : ℕ) (part : Boxed) (from : Cell) : Type 0 where
   pub part_fits : FitsFile side part
   pub start : IsInBox part from
 
--- the cells of a box of a version that ways through its clear cells join with a cell of it: how many
--- they are, and their VOX file
+-- the cells of a box of a version that ways through its clear cells join with a cell of it: how
+-- many they are, and their VOX file
 pub data WorldFloods (w : CWorld) (version : ℕ) (part : Boxed) (from : Cell) (was cells : ℕ)
     (old new : List ℕ) (before needed : ℕ) : ℕ → Type 0 where
   made : (status : ℕ) (file : List ℕ) → HoldsVersion w.open.log version
@@ -335,20 +384,22 @@ pub record AreSlots (asked slots : ℕ) : Type 0 where
 
 -- a world of this side and cap, which keeps so many versions, with the models of these bytes, where
 -- nothing was done
-pub record IsBegun (side cap keep : ℕ) (bytes : List ℕ) (w : CWorld) : Type 0 where
+pub record IsBegun (coloured : Bool) (side cap keep : ℕ) (bytes : List ℕ)
+    (w : CWorld) : Type 0 where
   pub cells : held_side w ≡ side
   pub buckets : w.open.plan.buckets ≡ usual_buckets
   pub slots : AreSlots cap w.open.plan.cap
   pub models : AsksForModels bytes w.open.models
   pub nothing : w.open.log
-      ≡ record { side = w.open.plan.side; coloured = false; records = []; marks = [] }
+      ≡ record { side = w.open.plan.side; coloured = coloured; records = []; marks = [] }
   pub noted : w.open.noted ≡ record { made = []; met = [] }
   pub keep_is : w.keep ≡ keep
   pub line : w.line ≡ 1
 
--- a world can have this side, and its buckets so many slots
-pub record AreSideAndCap (side cap : ℕ) : Type 0 where
+-- a world can have this side, with tints or without, and its buckets so many slots
+pub record AreSideAndCap (coloured : Bool) (side cap : ℕ) : Type 0 where
   pub is_a_side : IsTrue (is_side side)
+  pub has_store : coloured ≡ true → side ≤ 1024
   pub is_a_cap : cap ≢ 0 → IsTrue (is_cap cap)
 
 -- why the models that are asked for by the bytes of a file aren't there
@@ -359,11 +410,11 @@ pub data RefusesModels (bytes : List ℕ) : ℕ → Type 0 where
   memory : RefusesModels bytes 2
 
 -- why no world is opened
-pub data Refuses (side cap : ℕ) (bytes : List ℕ) : ℕ → Type 0 where
-  bad_plan : ¬ AreSideAndCap side cap → Refuses side cap bytes 12
-  no_models : (status : ℕ) → AreSideAndCap side cap → RefusesModels bytes status
-      → Refuses side cap bytes status
-  memory : AreSideAndCap side cap → Refuses side cap bytes 2
+pub data Refuses (coloured : Bool) (side cap : ℕ) (bytes : List ℕ) : ℕ → Type 0 where
+  bad_plan : ¬ AreSideAndCap coloured side cap → Refuses coloured side cap bytes 12
+  no_models : (status : ℕ) → AreSideAndCap coloured side cap → RefusesModels bytes status
+      → Refuses coloured side cap bytes status
+  memory : AreSideAndCap coloured side cap → Refuses coloured side cap bytes 2
 
 -- the number that C gets for a file's fault
 abbrev pub status_of_file : VoxFault → ℕ
@@ -371,13 +422,13 @@ status_of_file Memory = 2
 status_of_file other = 15
 
 -- a world is opened in a handle that has none
-pub data OpensHandle (side cap keep : ℕ) (bytes : List ℕ) : Option CWorld → ℕ → Option CWorld
-    → Type 0 where
-  is_open : (w : CWorld) → OpensHandle side cap keep bytes (Some w) 13 (Some w)
-  refused : (status : ℕ) → Refuses side cap bytes status
-      → OpensHandle side cap keep bytes None status None
-  begun : (w : CWorld) → IsBegun side cap keep bytes w
-      → OpensHandle side cap keep bytes None 0 (Some w)
+pub data OpensHandle (coloured : Bool) (side cap keep : ℕ) (bytes : List ℕ)
+    : Option CWorld → ℕ → Option CWorld → Type 0 where
+  is_open : (w : CWorld) → OpensHandle coloured side cap keep bytes (Some w) 13 (Some w)
+  refused : (status : ℕ) → Refuses coloured side cap bytes status
+      → OpensHandle coloured side cap keep bytes None status None
+  begun : (w : CWorld) → IsBegun coloured side cap keep bytes w
+      → OpensHandle coloured side cap keep bytes None 0 (Some w)
 
 -- a world is closed, where one is held
 pub data ClosesHandle : Option CWorld → ℕ → Option CWorld → Type 0 where

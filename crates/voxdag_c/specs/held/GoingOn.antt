@@ -1,5 +1,5 @@
 -- What it is to go on with the world that stands behind a journal.
-use Rattle.std.specs.Prelude.{◌≡◌, ◌≢◌, ℕ, ◌+◌, ◌^◌, ◌≤◌, IsTrue, true, false, List, Option, Some, None, length, ⊤}
+use Rattle.std.specs.Prelude.{◌≡◌, ◌≢◌, ℕ, ◌+◌, ◌^◌, ◌≤◌, IsTrue, List, Option, Some, None, length, ⊤}
 use Rattle.vox_read.specs.Contents.{Content}
 use Rattle.history_model.specs.declared.reading.JournalFault.{JournalFault}
 use Rattle.history_model.specs.declared.reading.JournalFault.TheVariants.{Line, Memory}
@@ -14,7 +14,7 @@ use Rattle.dag_answers.specs.declared.making.HistoryRefused.{HistoryRefused}
 use Rattle.dag_answers.specs.declared.making.HistoryRefused.TheVariants as histories
 use Rattle.dag_answers.specs.Legality.{IsFirstIllegal}
 use Rattle.voxdag_c.specs.declared.held.worlds.CWorld.{CWorld}
-use Rattle.voxdag_c.specs.held.Calls.{AsksForModels, AreSlots, RefusesModels, held_side}
+use Rattle.voxdag_c.specs.held.Calls.{AsksForModels, AreSlots, RefusesModels, store_side}
 
 -- buckets can have so many slots; 0 asks for the usual number
 abbrev pub IsCapAsked : ℕ → Type 0
@@ -36,18 +36,16 @@ pub record IsToldOver (bytes journal : List ℕ) (models : List Content) (log : 
 -- from now on keeps so many versions; the line of what comes next counts what it has
 pub record IsGoneOn (cap keep : ℕ) (bytes journal : List ℕ) (w : CWorld) : Type 0 where
   pub told : IsToldOver bytes journal w.open.models w.open.log
-  pub legal : IsLegal (held_side w) w.open.models w.open.log
-  pub plain : w.open.log.coloured ≡ false
+  pub legal : IsLegal (store_side w) w.open.models w.open.log
   pub plan : IsPlanAsked w.open.log.side cap w.open.plan
   pub keep_is : w.keep ≡ keep
   pub line : w.line ≡ length w.open.log.records + length w.open.log.marks + 1
 
--- the records of a history without tints may fill a bucket
+-- the records of a history may fill a bucket
 pub record FillsBehind (cap : ℕ) (bytes journal : List ℕ) (models : List Content) (log : Log)
     : Type 0 where
   pub told : IsToldOver bytes journal models log
   pub legal : IsLegal (2 ^ log.side) models log
-  pub plain : log.coloured ≡ false
   pub plan : Layout
   pub asked : IsPlanAsked log.side cap plan
   pub bucket : Full
@@ -60,11 +58,8 @@ pub data RefusesToGoOn (cap : ℕ) (bytes journal : List ℕ) (old line : ℕ) :
       → RefusesToGoOn cap bytes journal old line status
   bad_journal : (models : List Content) → IsCapAsked cap → AsksForModels bytes models
       → RefusesJournal (Line line) journal → RefusesToGoOn cap bytes journal old line 18
-  tinted : (models : List Content) (log : Log) → IsCapAsked cap
-      → IsToldOver bytes journal models log → log.coloured ≡ true → line ≡ old
-      → RefusesToGoOn cap bytes journal old line 20
   not_legal : (models : List Content) (log : Log) (n : ℕ) → IsCapAsked cap
-      → IsToldOver bytes journal models log → log.coloured ≡ false
+      → IsToldOver bytes journal models log
       → IsFirstIllegal (2 ^ log.side) models log n → line ≡ n + 2
       → RefusesToGoOn cap bytes journal old line 19
   full : (models : List Content) (log : Log) → IsCapAsked cap

@@ -1,10 +1,13 @@
 //! The questions of a version, and what a world writes out.
 ghost use Rattle.std.specs.Prelude.{◌≡◌, ◌↔◌, ◌≤◌, ◌^◌, false, IfOk, IfErr, IsTrue, length};
+ghost use Rattle.vw_cell.specs.Places.{FitsAt};
 ghost use Rattle.history_model.specs.Ways.{heading_of};
 ghost use Rattle.history_model.specs.declared.questions.Question.TheVariants as questions;
+ghost use Rattle.core_laws.specs.contents.Versions.{HoldsVersion};
 ghost use Rattle.script.specs.Fitting.{QuestionFits};
 ghost use Rattle.transcript.specs.declared.answers.Answer.TheVariants as answers;
 ghost use Rattle.voxdag_c.specs.held.Places.{cell_of_c_place, box_of, extent_of, hit_of};
+ghost use Rattle.voxdag_c.specs.held.Calls.{file_of_version, held_side};
 ghost use Rattle.voxdag_c.specs.held.Calls.{WorldAsks, WorldCompares, WorldSaves, WorldJournals, Answered, CantBeAsked, is_in, cells_in, faces_answered, extent_in, hit_in};
 
 use crate::held::outputs::put_bytes;
@@ -14,7 +17,7 @@ use crate::held::worlds::CWorld;
 use history_model::{Question, Way};
 use std::alloc::Global;
 use transcript::Answer;
-use vw_cell::{Boxed, Cell};
+use vw_cell::{Boxed, Cell, Memory};
 
 impl CWorld {
     /// Whether a cell of a version is set.
@@ -124,7 +127,7 @@ impl CWorld {
         }
     }
 
-    /// Whether two versions have the same cells.
+    /// Whether two versions have the same tints: the same cells, where cells have none.
     pub fn same(&self, a: u32, b: u32, same: &mut bool) -> u32
         ensures { WorldCompares self.now a b same.old same.new result }
     {
@@ -163,10 +166,25 @@ impl CWorld {
         if !self.open.holds_version(version) {
             return self.why_gone(version);
         }
-        match self.open.file(alloc, version, b) {
+        match self.file(alloc, version, b) {
             Ok(file) => put_bytes(out, needed, file.as_slice()),
             Err(_) => status::NO_MEMORY,
         }
+    }
+
+    // The VOX file of a box of a version.
+    fn file(&mut self, alloc: Global, version: u32, part: Boxed) -> Result<Vec<u8>, Memory>
+        requires kept { HoldsVersion self.old.open.log version }
+        requires inside { FitsAt part.at part.size (held_side self.old) }
+        requires small { (part.size.x ≤ 256) × (part.size.y ≤ 256) × (part.size.z ≤ 256) }
+        ensures file { IfOk result
+            (λ file. file.items ≡ file_of_version self.old version part) }
+        ensures same { self.new ≡ self.old }
+    {
+        if self.open.tint() {
+            return self.open.tint_file(alloc, version, part);
+        }
+        self.open.file(alloc, version, part)
     }
 
     /// Writes the text of the journal, where there is room for it, and says how many bytes it has.
@@ -181,8 +199,8 @@ impl CWorld {
     }
 
     // The answer to the question, or why the version can't be read.
-    fn ask(&mut self, version: u32, question: Question) -> Result<Answer, u32>
-        requires { QuestionFits (2 ^ self.old.open.plan.side) question }
+    pub(crate) fn ask(&mut self, version: u32, question: Question) -> Result<Answer, u32>
+        requires { QuestionFits (held_side self.old) question }
         ensures told { IfOk result (λ a. Answered self.old version question a) }
         ensures gone { IfErr result (λ status. CantBeAsked self.old version question status) }
         ensures same { self.new ≡ self.old }

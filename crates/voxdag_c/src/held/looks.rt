@@ -2,7 +2,7 @@
 ghost use Rattle.std.specs.Prelude.{◌≡◌, ◌↔◌, ◌≤◌, IsTrue, false, length};
 ghost use Rattle.vw_cell.specs.Places.{IsInBox};
 ghost use Rattle.voxdag_c.specs.held.Places.{box_of, cell_of_c_place, extent_of};
-ghost use Rattle.voxdag_c.specs.held.Calls.{WorldDiffers, WorldShows, WorldFloods};
+ghost use Rattle.voxdag_c.specs.held.Calls.{ByKind, WorldDiffers, WorldShows, WorldFloods, WritesNothing};
 
 use crate::held::asks::{is_small, put_extent};
 use crate::held::outputs::put_bytes;
@@ -16,6 +16,23 @@ use vw_cell::{Boxed, Cell};
 impl CWorld {
     /// The least box of all cells in which two versions differ, where they do.
     pub fn changes(&mut self, a: u32, b: u32, some: &mut bool, least: &mut CBox) -> u32
+        ensures differs { ByKind false self.old
+            ((some.new ≡ some.old) × (least.new ≡ least.old))
+            (WorldDiffers self.old a b
+            (λ found. (found ≡ extent_of some.new least.new)
+            × (some.new ≡ false → least.new ≡ least.old))
+            ((some.new ≡ some.old) × (least.new ≡ least.old))) result }
+        ensures same { self.new ≡ self.old }
+    {
+        if self.open.tint() {
+            return status::OTHER_KIND;
+        }
+        self.plain_changes(a, b, some, least)
+    }
+
+    // The same of a world without tints.
+    fn plain_changes(&mut self, a: u32, b: u32, some: &mut bool, least: &mut CBox) -> u32
+        requires plain { self.old.open.log.coloured ≡ false }
         ensures differs { WorldDiffers self.old a b
             (λ found. (found ≡ extent_of some.new least.new)
             × (some.new ≡ false → least.new ≡ least.old))
@@ -42,6 +59,29 @@ impl CWorld {
         out: &mut [CShown],
         needed: &mut usize,
     ) -> u32
+        ensures shows { ByKind false self.old
+            (WritesNothing out.old out.new needed.old needed.new)
+            (WorldShows self.old version (box_of part) out.old out.new needed.old needed.new)
+            result }
+        ensures room { length out.new ≡ length out.old }
+        ensures same { self.new ≡ self.old }
+    {
+        if self.open.tint() {
+            return status::OTHER_KIND;
+        }
+        self.plain_surface(alloc, version, part, out, needed)
+    }
+
+    // The same of a world without tints.
+    fn plain_surface(
+        &mut self,
+        alloc: Global,
+        version: u32,
+        part: CBox,
+        out: &mut [CShown],
+        needed: &mut usize,
+    ) -> u32
+        requires plain { self.old.open.log.coloured ≡ false }
         ensures shows { WorldShows self.old version (box_of part) out.old out.new needed.old
             needed.new result }
         ensures room { length out.new ≡ length out.old }
@@ -76,6 +116,31 @@ impl CWorld {
         out: &mut [u8],
         needed: &mut usize,
     ) -> u32
+        ensures floods { ByKind false self.old
+            ((cells.new ≡ cells.old) × WritesNothing out.old out.new needed.old needed.new)
+            (WorldFloods self.old version (box_of part) (cell_of_c_place from)
+            cells.old cells.new out.old out.new needed.old needed.new) result }
+        ensures room { length out.new ≡ length out.old }
+        ensures same { self.new ≡ self.old }
+    {
+        if self.open.tint() {
+            return status::OTHER_KIND;
+        }
+        self.plain_flood(alloc, version, part, from, cells, out, needed)
+    }
+
+    // The same of a world without tints.
+    fn plain_flood(
+        &mut self,
+        alloc: Global,
+        version: u32,
+        part: CBox,
+        from: CPlace,
+        cells: &mut u64,
+        out: &mut [u8],
+        needed: &mut usize,
+    ) -> u32
+        requires plain { self.old.open.log.coloured ≡ false }
         ensures floods { WorldFloods self.old version (box_of part) (cell_of_c_place from)
             cells.old cells.new out.old out.new needed.old needed.new result }
         ensures room { length out.new ≡ length out.old }

@@ -40,9 +40,6 @@ impl CWorld {
             Ok(history) => history,
             Err(fault) => return Err(put_fault(fault, line)),
         };
-        if history.coloured {
-            return Err(status::OTHER_KIND);
-        }
         match behind(alloc, cap, keep, models, &history, line) {
             Ok(world) => boxed(alloc, world),
             Err(status) => Err(status),
@@ -65,8 +62,8 @@ fn is_cap(cap: u16) -> bool
     1 <= cap && cap <= 256
 }
 
-// The world that stands behind a history without tints.
-#[tactic(auto, using(dag_answers::proofs::ToldLaws::told_marks, dag_answers::proofs::ToldLaws::told_suits, crate::proofs::OfHeld::GoingOn::few_at, crate::proofs::OfHeld::GoingOn::few_lines))]
+// The world that stands behind a history.
+#[tactic(auto, using(dag_answers::proofs::ToldLaws::told_marks, dag_answers::proofs::ToldLaws::told_suits, dag_answers::proofs::ToldLaws::told_large, crate::proofs::OfHeld::GoingOn::few_at, crate::proofs::OfHeld::GoingOn::few_lines))]
 fn behind(
     alloc: Global,
     cap: u16,
@@ -78,7 +75,6 @@ fn behind(
     requires cap { IsCapAsked cap }
     requires models { AreModels models }
     requires has { HasJournal history.now }
-    requires plain { history.now.coloured ≡ false }
     ensures gone_on { (bytes journal : List ℕ) → IsToldOver bytes journal models history.now
         → IfOk result (λ w. IsGoneOn cap keep bytes journal w) }
     ensures line { IfOk result (λ _. line.new ≡ line.old) }

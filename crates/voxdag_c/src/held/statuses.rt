@@ -40,3 +40,5 @@ pub const BAD_JOURNAL: u32 = 18;
 pub const NOT_LEGAL: u32 = 19;
 /// A call for a world with tints where cells have none, or the reverse.
 pub const OTHER_KIND: u32 = 20;
+/// A tint is a number from 1 to 255.
+pub const BAD_TINT: u32 = 21;

@@ -14,7 +14,7 @@ replay_all-requires-clause-suits g c =
     subst (λ (rs : List Record). All
     (λ (r : Record). suits_tints c.in-Ok.replay.tint r.act ≡ true) rs) (sym records)
     (suits_begun c.in-Ok.replay c.args.log.now.coloured c.args.log.now.records tint
-    c.requires.suits)
+    c.requires.replays.suits)
 
 pub returns-in-Err-replay_all-clause-refused : goal.returns-in-Err-replay_all-clause-refused
 returns-in-Err-replay_all-clause-refused g c =

@@ -31,7 +31,7 @@ returns-in-Err-clause-refused g c = λ marks tells. (
     c.loop-record.record-index c.loop-record.ways.items r any_record c.in-Err.refused
     c.loop-record.invariant.plan
     c.loop-record.invariant.models (c.loop-record.invariant.so_far marks tells)
-    lt c.requires.few refl (c.in-Err.ensures.steps marks tells) c.in-Err.ensures.refused)
+    lt c.requires.all.few refl (c.in-Err.ensures.steps marks tells) c.in-Err.ensures.refused)
 
 pub loop-record-preserved : goal.loop-record-preserved
 loop-record-preserved g c =
@@ -45,9 +45,9 @@ loop-record-preserved g c =
     let pushed : c.push.new.self.items ≡ c.loop-record.ways.items ++ c.undo_targets_now.result ∷ [] =
     search rules in
     record {
-      plan = c.in-Ok-true.ensures.plan ∙ c.loop-record.invariant.plan;
-      tint = c.in-Ok-true.ensures.tint ∙ c.loop-record.invariant.tint;
-      models = c.in-Ok-true.ensures.models ∙ c.loop-record.invariant.models;
+      plan = c.in-Ok-true.ensures.stays.plan ∙ c.loop-record.invariant.plan;
+      tint = c.in-Ok-true.ensures.stays.tint ∙ c.loop-record.invariant.tint;
+      models = c.in-Ok-true.ensures.stays.models ∙ c.loop-record.invariant.models;
       number = ap (λ (rs : List Record). length rs) came
           ∙ length-append c.loop-record.replay.records (r ∷ [])
           ∙ ap (λ k. k + 1) c.loop-record.invariant.number;

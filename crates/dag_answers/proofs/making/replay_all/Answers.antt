@@ -18,7 +18,7 @@ loop-record-init g c = record {
   plan = refl;
   next = omega arith;
   so_far = c.requires.begun;
-  later = begun_later c.args.history.now c.args.due.now c.requires.due c.requires.marks;
+  later = begun_later c.args.history.now c.args.due.now c.requires.dated.due c.requires.dated.marks;
 }
 
 pub take-requires-clause-follows : goal.take-requires-clause-follows
@@ -27,7 +27,7 @@ take-requires-clause-follows g c =
     let is : c.deref-record-items.result.now ≡ c.args.history.now.records = search rules in
     subst (λ (rs : List Record). MayFollow now.log.marks (length now.log.records + 1)
     (get_or rs c.loop-record.record-index any_record).act (position_after now.log.records)) (sym is)
-    (may_come c.args.replay.now.models c.args.history.now c.args.due.now c.requires.due
+    (may_come c.args.replay.now.models c.args.history.now c.args.due.now c.requires.dated.due
     c.loop-record.record-index c.loop-record.next now any_record c.loop-record.invariant.so_far
     (search rules) c.requires.records)
 
@@ -45,7 +45,7 @@ pub returns-in-Err-clause-refused : goal.returns-in-Err-clause-refused
 returns-in-Err-clause-refused g c =
     let now = c.loop-record.replay in
     let is : c.deref-record-items.result.now ≡ c.args.history.now.records = search rules in
-    refuses_next c.args.replay.now.models c.args.history.now c.args.due.now c.requires.due
+    refuses_next c.args.replay.now.models c.args.history.now c.args.due.now c.requires.dated.due
     c.args.replay.now.plan c.loop-record.record-index c.loop-record.next now any_record c.in-Err.why
     c.loop-record.invariant.so_far (search rules) c.requires.records
     c.loop-record.invariant.plan
@@ -60,7 +60,7 @@ forget_due-next-requires-clause-so_far g c =
     let is : c.deref-record-items.result.now ≡ c.args.history.now.records = search rules in
     let came : new.log ≡ log_with_record now.log (get_or c.deref-record-items.result.now c.loop-record.record-index any_record) = search rules in
     let next =
-    has_next models c.args.history.now c.args.due.now c.requires.due c.loop-record.record-index
+    has_next models c.args.history.now c.args.due.now c.requires.dated.due c.loop-record.record-index
     c.loop-record.next now new any_record c.loop-record.invariant.so_far (search rules)
     c.loop-record.invariant.later c.take.ensures.plan c.take.ensures.models
     (subst (λ (rs : List Record). new.log
@@ -87,7 +87,7 @@ returns-clause-all g c =
     subst (λ (n : ℕ). All (λ (m : Mark). n < m.at) (drop c.loop-record.next c.args.due.now)) end
     c.loop-record.invariant.later in
     let le =
-    all_due models log c.args.due.now c.requires.due c.loop-record.next now of_end c.requires.marks later in
+    all_due models log c.args.due.now c.requires.dated.due c.loop-record.next now of_end c.requires.dated.marks later in
     let within = c.loop-record.invariant.next in
     let all : c.loop-record.next ≡ length c.args.due.now = omega (arith, le, within) in
     subst (λ (k : ℕ). HasReplayed models log c.args.due.now (length log.records) k now) all of_end

@@ -10,7 +10,7 @@ returns-clause-fits g c =
     c.show_as_many.ensures.0 t in
     let by =
     agrees_by c.args.keep c.args.judged.now c.args.self.now.replay.models c.args.log.now c.args.scripts.now
-    c.args.transcripts.now c.requires.rise c.requires.marks c.requires.last in (
+    c.args.transcripts.now c.requires.scripts.rise c.requires.marks c.requires.last in (
       λ fit. by.0 (c.sessions_fit.ensures.fits.0 fit, many),
       λ agrees. c.sessions_fit.ensures.fits.1 (by.1 agrees).0,
     )

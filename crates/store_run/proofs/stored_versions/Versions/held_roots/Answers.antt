@@ -5,8 +5,8 @@ use Rattle.store_run.proofs.Finding.{in_places, mark_read}
 use Rattle.store_run.proofs.Taken.{all_taken, taken_few}
 use Rattle.store_run.proofs.stored_versions.Versions.held_roots.Goals as goal
 
-pub take-requires-clause-few : goal.take-requires-clause-few
-take-requires-clause-few c =
+pub take_root-requires-clause-few : goal.take_root-requires-clause-few
+take_root-requires-clause-few c =
     taken_few c.args.self c.loop-version.version c.loop-version.held.store
     c.loop-version.held.roots.items c.loop-version.invariant.taken (search rules)
 
@@ -20,7 +20,7 @@ loop-version-preserved c =
     (omega (arith, there, places))
     c.index.ensures in
     record {
-      taken = c.take.ensures.taken c.args.self c.requires.are le is c.loop-version.invariant.taken;
+      taken = c.take_root.ensures.taken c.args.self c.requires.are le is c.loop-version.invariant.taken;
       room = search rules;
       ample = search rules;
     }

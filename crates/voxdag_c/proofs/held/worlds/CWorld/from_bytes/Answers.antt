@@ -10,7 +10,7 @@ returns-in-None-clause-refused c =
 
 pub returns-in-Ok-clause-refused : goal.returns-in-Ok-clause-refused
 returns-in-Ok-clause-refused c =
-    not_boxed c.args.side c.args.cap c.args.file.now
+    not_boxed c.args.tint c.args.side c.args.cap c.args.file.now
     (c.in-Some.ensures.exactly.0 refl) c.boxed.result c.boxed.ensures.refused
 
 pub returns-in-Err-clause-refused : goal.returns-in-Err-clause-refused

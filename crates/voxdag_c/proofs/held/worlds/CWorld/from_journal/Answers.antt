@@ -17,17 +17,6 @@ returns-in-Err-read_journal-clause-refused c =
     c.in-Err-read_journal.fault c.args.line.now c.put_fault.new.line c.put_fault.result
     (c.is_cap_asked.ensures.yes (search rules)) c.in-Ok.ensures.are c.in-Err-read_journal.ensures.refused c.put_fault.ensures
 
-pub returns-then-history-clause-refused : goal.returns-then-history-clause-refused
-returns-then-history-clause-refused c =
-    RefusesToGoOn.tinted c.in-Ok.models c.in-Ok-read_journal.history
-    (c.is_cap_asked.ensures.yes (search rules))
-    (record {
-      models_are = c.in-Ok.ensures.are;
-      has = c.in-Ok-read_journal.ensures.read.0;
-      is = c.in-Ok-read_journal.ensures.read.1;
-    })
-    (search rules) refl
-
 pub returns-in-Ok-behind-clause-gone_on : goal.returns-in-Ok-behind-clause-gone_on
 returns-in-Ok-behind-clause-gone_on c =
     boxed_gone c.args.cap c.args.keep c.args.file.now c.args.journal.now c.in-Ok-behind.world

@@ -1,5 +1,6 @@
 use Rattle.std.proofs.Common.{refl}
 use Rattle.voxdag_c.specs.held.Calls.{WorldCompares}
+use Rattle.voxdag_c.proofs.OfHeld.Kinds.{same_plain}
 use Rattle.voxdag_c.proofs.held.worlds.CWorld.same.Goals as goal
 
 pub returns-then-not-holds_version : goal.returns-then-not-holds_version
@@ -13,4 +14,5 @@ returns-then-not-holds_version-2 c =
 pub returns : goal.returns
 returns c =
     WorldCompares.told (c.if-not-holds_version.ensures.0 refl)
-    (c.if-not-holds_version-2.ensures.0 refl) c.same.ensures
+    (c.if-not-holds_version-2.ensures.0 refl) c.same.ensures.tints
+    (same_plain c.args.self.now c.args.a c.args.b c.same.result c.same.ensures.cells)

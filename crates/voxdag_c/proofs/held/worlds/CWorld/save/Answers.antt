@@ -1,7 +1,6 @@
 use Rattle.std.proofs.Common.{List, ℕ, refl, ◌∙◌, ap, subst}
 use Rattle.vw_cell.specs.declared.boxes.Boxed.{Boxed}
-use Rattle.extract.specs.Saved.{file_of_box}
-use Rattle.voxdag_c.specs.held.Calls.{WorldSaves, WritesBytes, cells_of_version}
+use Rattle.voxdag_c.specs.held.Calls.{WorldSaves, WritesBytes, file_of_version}
 use Rattle.voxdag_c.proofs.OfHeld.Fitting.{box_fits, box_leaves, file_fits, file_large}
 use Rattle.voxdag_c.proofs.held.worlds.CWorld.save.Goals as goal
 
@@ -31,8 +30,7 @@ returns-in-Ok-clause-saves c =
     (c.if-not-is_small.ensures.0 refl))
     (subst (λ (bytes : List ℕ). WritesBytes bytes c.args.out.now c.put_bytes.new.out c.put_bytes.new.needed c.put_bytes.result)
     (c.as_slice.ensures.value ∙ c.in-Ok.ensures.file
-    ∙ ap (λ (b : Boxed). file_of_box b
-    (cells_of_version c.args.self.now c.args.version)) c.in-Some.ensures.value)
+    ∙ ap (λ (b : Boxed). file_of_version c.args.self.now c.args.version b) c.in-Some.ensures.value)
     c.put_bytes.ensures.writes)
 
 pub returns-in-Err-clause-saves : goal.returns-in-Err-clause-saves

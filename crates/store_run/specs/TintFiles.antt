@@ -1,5 +1,5 @@
 -- The VOX file of a box of a world whose cells have tints.
-use Rattle.std.specs.Prelude.{ℕ, ◌+◌, List, map}
+use Rattle.std.specs.Prelude.{ℕ, ◌+◌, ◌-◌, ◌^◌, List, map}
 use Rattle.vw_cell.specs.declared.cells.Cell.{Cell}
 use Rattle.vw_cell.specs.declared.boxes.Boxed.{Boxed}
 use Rattle.vw_cell.specs.Counts.{cell_at}
@@ -9,6 +9,7 @@ use Rattle.vox_write.specs.Written.{model_file}
 use Rattle.history_model.specs.Tints.{Tints}
 use Rattle.history_model.specs.Worlds.{World}
 use Rattle.extract.specs.Listing.{voxels_of_box}
+use Rattle.act_rebuilds.specs.Reading.{tinted_voxels}
 
 -- the voxel of a box from this corner, with the tint of its cell as its colour
 abbrev pub with_its_tint : Tints → Cell → Voxel → Voxel
@@ -30,3 +31,8 @@ model_of_tints b cells tints = record {
 -- the bytes of its file
 abbrev pub file_of_tints : Boxed → World → Tints → List ℕ
 file_of_tints b cells tints = model_file (model_of_tints b cells tints)
+
+-- the same of the world whose tints these cells of a store keep, whose side has this exponent
+abbrev pub file_of_kept_tints : ℕ → Boxed → World → List ℕ
+file_of_kept_tints side b cells =
+    model_file (record { size = b.size; voxels = tinted_voxels (2 ^ (side - 2)) b cells })
