@@ -1,5 +1,5 @@
 // Attempts at an edit: each makes its root of the newest version that the session has seen.
-ghost use Rattle.std.specs.Prelude.{OnErr, OnOk, option_copied};
+ghost use Rattle.std.specs.Prelude.{◌+◌, OnErr, OnOk, option_copied};
 ghost use Rattle.table_rule.specs.ViewFacts.{most_before_call};
 ghost use Rattle.session.specs.Lendable.{IsLendable, StaysLendable};
 ghost use Rattle.version_log.specs.Coming.{CommitCame};

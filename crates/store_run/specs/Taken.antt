@@ -51,8 +51,8 @@ pub record AreToBeTaken (v : Versions) (store : Known) (marks : List (Option Mar
   pub marks_are : v.marks.items ≡ marks
   pub many : moment_of v + 1 ≡ count
 
--- of roots that were taken out, these are still out of their places, and a share of each is all that
--- is held; all other roots stand in their places, and each has its tree
+-- of roots that were taken out, these are still out of their places, and a share of each is all
+-- that is held; all other roots stand in their places, and each has its tree
 pub record AreLeftOut (old new : Known) (roots : List Rooted) : Type 0 where
   pub plan : new.words.plan ≡ old.words.plan
   pub trees : (v : ℕ) → root_tree new (stored_root old.roots v)

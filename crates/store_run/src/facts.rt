@@ -14,13 +14,6 @@ impl OpenWorld {
         self.versions.store.plan().cap()
     }
 
-    /// Whether cells have tints.
-    pub fn tint(&self) -> bool
-        ensures { result ≡ self.now.log.coloured }
-    {
-        self.versions.models.tint()
-    }
-
     /// The file of the versions that are kept. Their roots leave their places for the time, and
     /// come back.
     pub fn dag(&mut self, alloc: Global) -> Result<Vec<u8>, Memory>

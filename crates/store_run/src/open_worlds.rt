@@ -230,8 +230,8 @@ impl OpenWorld {
         file_over::<Brand>(&mut self.versions, alloc, version, part, Blank::new(1))
     }
 
-    /// The VOX file of a box of a version of a world with tints, in which each set cell has its tint
-    /// as its colour.
+    /// The VOX file of a box of a version of a world with tints, in which each set cell has its
+    /// tint as its colour.
     #[tactic(auto, using(crate::proofs::TintFiles::rests_tinted, crate::proofs::TintFiles::part_here))]
     pub fn tint_file(&mut self, alloc: Global, version: u32, part: Boxed) -> Result<Vec<u8>, Memory>
         requires tinted { self.old.log.coloured ≡ true }

@@ -13,8 +13,8 @@ pub data WorldFiles (w : CWorld) (old new : List ℕ) (before needed : ℕ) : �
       → WorldFiles w old new before needed status
   memory : WritesNothing old new before needed → WorldFiles w old new before needed 2
 
--- the side in cells, the slots of a bucket, how many versions are kept, 0 for all, and whether cells
--- have tints
+-- the side in cells, the slots of a bucket, how many versions are kept, 0 for all, and whether
+-- cells have tints
 pub record PutsPlan (w : CWorld) (status : ℕ) (plan : CPlan) : Type 0 where
   pub done : status ≡ 0
   pub side : plan.side ≡ held_side w
