@@ -78,6 +78,31 @@ SAVE = b"fill 3 3 3 1 1 1\nsave a.vox 3 3 3 1 1 1\nsave b.vox 0 0 0 1 1 1\n"
 SAVE_OUT = b"1 @1 ok\n2 @1 saved 1\n3 @1 saved 0\n"
 NONE = ONE[:16] + struct.pack("<I", 40) + ONE[20:48] + struct.pack("<3I", 4, 0, 0)
 
+# One cell gets tint 5, and then tint 2.
+TINTS = b"fill 0 0 0 1 1 1 5\ncolour 0 0 0\nfill 0 0 0 1 1 1 2\ncolour 0 0 0\n"
+TINTS_OUT = b"1 @1 ok\n2 @1 colour 5\n3 @2 ok\n4 @2 colour 2\n"
+TINTS_JOURNAL = b"voxdag journal 2\nside 8\n1 0 1 fill 0 0 0 1 1 1 5\n2 0 3 fill 0 0 0 1 1 1 2\nend\n"
+
+# The last two versions alone are held: two leaves, and a node above each.
+FALLING = b"fill 0 0 0 1 1 1\nfill 1 0 0 1 1 1\nundo\nundo\nredo\nat 0 count 0 0 0 8 8 8\ncount 0 0 0 8 8 8\n"
+FALLEN = b"1 @1 ok\n2 @2 ok\n3 @3 ok\n4 @3 forgotten 0\n5 @4 ok\n6 @4 forgotten 0\n7 @4 count 2\n"
+
+FALLEN_JOURNAL = b"""voxdag journal 1
+side 8
+1 0 1 fill 0 0 0 1 1 1
+2 0 2 fill 1 0 0 1 1 1
+3 0 3 undo
+4 0 5 redo
+mark 0 2 0 2
+mark 1 3 0 3
+mark 2 4 0 5
+end
+"""
+
+# A world of eight full leaves: one leaf, and one node with it eight times; its versions are empty and full.
+FILL_JOURNAL = b"voxdag journal 1\nside 8\n1 0 1 fill 0 0 0 8 8 8\nend\n"
+FULL = b"VDAG" + struct.pack("<5I", 1, 8, 2, 1, 1) + bytes([255]) * 8 + struct.pack("<8I", *[1] * 8) + struct.pack("<4I", 0, 0, 1, 1)
+
 # A row: what it is, the words, the inputs, and the outputs in order; the last one is what is printed.
 ROWS = [
     ("undo", "run --side 8 --journal J --report P one.vox s", {"one.vox": ONE, "s": UNDO},
@@ -85,6 +110,15 @@ ROWS = [
     ("save", "run --side 8 one.vox s", {"one.vox": ONE, "s": SAVE},
      {"s.out": SAVE_OUT, "a.vox": ONE, "b.vox": NONE, "printed": b"scripts 1 records 1 marks 0 nodes 2\n"}),
     ("count", "count one.vox", {"one.vox": ONE}, {"printed": b"1\n"}),
+    ("colours", "run --colours --side 8 --journal J one.vox s", {"one.vox": ONE, "s": TINTS},
+     {"s.out": TINTS_OUT, "J": TINTS_JOURNAL, "printed": b"scripts 1 records 2 marks 0 nodes 7\n"}),
+    ("keep", "run --side 8 --keep 2 --journal J one.vox s", {"one.vox": ONE, "s": FALLING},
+     {"s.out": FALLEN, "J": FALLEN_JOURNAL, "printed": b"scripts 1 records 4 marks 3 nodes 4\n"}),
+    ("dag", "dag one.vox J o", {"one.vox": ONE, "J": FILL_JOURNAL}, {"o": FULL, "printed": b""}),
+    ("look", "look d 1 count 0 0 0 8 8 8", {"d": FULL}, {"printed": b"count 512\n"}),
+    ("audit", "audit one.vox J s t",
+     {"one.vox": ONE, "J": FILL_JOURNAL, "s": b"fill 0 0 0 8 8 8\n", "s.out": b"1 @1 ok\n", "t": b"head\n",
+      "t.out": b"1 @1 head\n"}, {"printed": b"yes\n"}),
     ("flood", "flood one.vox 0 0 0 0 o.vox", {"one.vox": ONE}, {"o.vox": NONE, "printed": b"0\n"}),
     ("scene", "scene one.vox o.vox s", {"one.vox": ONE},
      {"o.vox": ONE, "s": b"stamp 0 0 0 0\n", "printed": b"side 4 placements 1\n"}),
@@ -200,7 +234,7 @@ def rows() -> list[Row]:
 
 def case(product: Product, rng: Random) -> None:
     """A row with one allocation refused, or its threads from one on."""
-    number = rng.choice([0, 0, 1, 1, 2, 3, 4, 5])
+    number = rng.choice([0, 0, 1, 1, *range(2, len(rows()))])
     row, program = rows()[number], str(product.program)
     calls, threads = reached(program, number)
     call, thread = (0, rng.randint(1, threads)) if threads and rng.randrange(6) == 0 else (rng.randint(1, calls), 0)

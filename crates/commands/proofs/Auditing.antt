@@ -36,11 +36,11 @@ use Rattle.commands.specs.Refusals.{of_vox, of_journal, of_audit, RefusesScripts
 use Rattle.commands.specs.Inputs.{audit_inputs}
 use Rattle.commands.specs.Scripts.{lines_in_history}
 use Rattle.commands.specs.Judging.{AgreesWith, IsJudged}
+use Rattle.commands.specs.Judged.{models_once, models_not_lacking}
 use Rattle.commands.specs.Unread.{no_journal, no_transcripts, said_once}
 use Rattle.commands.specs.Verdicts.{Verdict, Fine, HasScriptFault, HasJournalFault, HasTranscriptFault, JudgesModels}
 use Rattle.history_model.proofs.OnceLaws.{journals_once}
 use Rattle.commands.proofs.Accepting.{not_accepted, unwritten}
-use Rattle.commands.proofs.Following.{models_once, models_not_lacking}
 
 -- ---- refusals
 

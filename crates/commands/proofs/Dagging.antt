@@ -30,11 +30,11 @@ use Rattle.commands.specs.Outcomes.{Outcome}
 use Rattle.commands.specs.Putting.{StopsAmong}
 use Rattle.commands.specs.Refusals.{of_vox, of_journal}
 use Rattle.commands.specs.Judging.{AgreesWith, IsJudged}
+use Rattle.commands.specs.Judged.{models_once, models_not_lacking}
 use Rattle.commands.specs.Verdicts.{Verdict, Fine, HasJournalFault, JudgesModels}
 use Rattle.commands.specs.Unread.{no_journal}
 use Rattle.history_model.proofs.OnceLaws.{journals_once}
 use Rattle.commands.proofs.Accepting.{not_accepted}
-use Rattle.commands.proofs.Following.{models_once, models_not_lacking}
 use Rattle.commands.proofs.Putting.{broken_off}
 
 -- ---- refusals

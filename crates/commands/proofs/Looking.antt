@@ -14,6 +14,7 @@ use Rattle.commands.specs.declared.refusals.TextRefused.{TextRefused}
 use Rattle.commands.specs.declared.refusals.TextRefused.TheVariants.{NoPlace, NoDag, Memory}
 use Rattle.requests.specs.Orders.{LookAsked}
 use Rattle.commands.specs.Judging.{AgreesWith, IsJudged}
+use Rattle.commands.specs.Judged.{computed_is_some}
 use Rattle.commands.specs.Looks.{RefusesLooking, JudgesAnswer, verdict_of_look, look_means}
 use Rattle.commands.specs.Meanings.{file_in}
 use Rattle.commands.specs.Outcomes.{Outcome}
@@ -21,7 +22,6 @@ use Rattle.commands.specs.Refusals.{of_look}
 use Rattle.commands.specs.Inputs.{vox_input}
 use Rattle.commands.specs.Verdicts.{Verdict}
 use Rattle.commands.proofs.Accepting.{not_accepted, unwritten}
-use Rattle.commands.proofs.Following.{computed_is_some}
 
 pub looked : (asked : LookAsked) (texts : List (List ℕ)) (answer : Answer) (old new : ShelfState)
     → AreTaken old.files (vox_input asked.dag ∷ []) texts

@@ -28,9 +28,9 @@ use Rattle.commands.specs.Putting.{StopsAmong}
 use Rattle.commands.specs.Refusals.{of_vox, of_scene}
 use Rattle.commands.specs.Inputs.{vox_input}
 use Rattle.commands.specs.Judging.{AgreesWith, FilesAreRead, IsJudged}
+use Rattle.commands.specs.Judged.{models_once, models_computed, computed_is_some}
 use Rattle.commands.specs.Verdicts.{Verdict, JudgesModels}
 use Rattle.commands.proofs.Accepting.{not_accepted}
-use Rattle.commands.proofs.Following.{models_once, models_computed, computed_is_some}
 use Rattle.commands.proofs.Putting.{broken_off}
 
 -- ---- refusals

@@ -6,6 +6,7 @@ pub mod Verdicts
 pub mod Meanings
 pub mod Outcomes
 pub mod Judging
+pub mod Judged
 pub mod Counts
 pub mod Floods
 pub mod Scenes

@@ -8,4 +8,4 @@ pub mod WrittenNumbers
 pub mod WrittenTranscripts
 pub mod WrittenJournals
 pub mod RunsAudited
-pub mod Judged
+pub mod Telling

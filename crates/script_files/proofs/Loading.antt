@@ -1,5 +1,5 @@
 -- The run of a load, and what it leaves.
-use Rattle.std.proofs.Common.{false, inl, inr, ◌≡◌, ℕ, ◌*◌, ◌^◌, ◌≤◌, arith, Result, List, [], ◌∷◌, length, map, Vec, Global, Ok, Err, refl, sym, ap, subst, ◌∙◌}
+use Rattle.std.proofs.Common.{false, inl, inr, ◌≡◌, ℕ, ◌*◌, ◌^◌, ◌≤◌, arith, Result, List, [], ◌∷◌, length, map, Vec, Global, Ok, Err, refl, ap, subst, ◌∙◌}
 use Rattle.std.proofs.lemmas.Bool.{cases_order}
 use Rattle.std.proofs.lemmas.List.{length-map}
 use Rattle.std.proofs.Math.Nat.{pow-le-pow_right}
@@ -20,11 +20,6 @@ use Rattle.text_laws.specs.regions.Statements.{load_lines, own_counts, LoadsAreC
 use Rattle.commands.specs.declared.refusals.NumberedFault.{NumberedFault}
 use Rattle.script_files.specs.declared.tallies.LoadTally.{LoadTally}
 use Rattle.commands.specs.declared.refusals.CommandRefused.TheVariants.{Output}
-use Rattle.commands.specs.declared.refusals.TextRefused.{TextRefused}
-use Rattle.commands.specs.declared.refusals.TextRefused.TheVariants.{Memory}
-use Rattle.commands.specs.Judging.{AgreesWith, IsJudged}
-use Rattle.commands.specs.Meanings.{RefusesNothing}
-use Rattle.commands.specs.Verdicts.{Fine}
 use Rattle.commands.specs.Scripts.{AreFitScripts, scripts_of}
 use Rattle.world_run.specs.Closed.{Closed}
 use Rattle.conformance.specs.sessions.LoggedSaves.{logged_of}
@@ -199,20 +194,3 @@ module _ (n : ℕ) (r : Read) (run : ScriptsRun) (old new : ShelfState) (counted
   demo_stopped refused s =
       broken_off refused (demo_means n) [] s.outputs old old new tt
       (demo_begun s.outputs s.begins) refl (omega arith) s.stops
-
--- ---- the verdict
-
-demo_refused_by : (texts : List (List ℕ)) (r : TextRefused) → RefusesNothing texts r
-    → AgreesWith (λ v. v ≡ Fine) r
-demo_refused_by texts Memory says = tt
-demo_refused_by texts _ says = absurd says
-
-pub demo_judged : (n : ℕ) → IsJudged (demo_means n)
-demo_judged n = record {
-  one = λ texts v w of_v of_w. of_v ∙ sym of_w;
-  given = λ texts written outputs g. refl;
-  begun = λ texts outputs b. refl;
-  refused = λ texts r says. demo_refused_by texts r says;
-  some = λ readings texts none. none Fine refl;
-  computed = λ readings told texts. (Fine, refl);
-}

@@ -3,6 +3,7 @@ pub mod Requests
 pub mod Reports
 pub mod Runs
 pub mod Demos
+pub mod Judged
 pub mod Commands
 pub mod Stages
 pub mod RunsAudited

@@ -85,13 +85,38 @@ fn faulty(alloc: Global) -> Result<FaultyShelf, Fail> {
     Ok(FaultyShelf::new(files, fails))
 }
 
-fn answers_as(shelf: &mut FaultyShelf, call: &Call, into: &mut Vec<u8>) -> bool {
+// The call of this number is answered as its row says.
+fn is_answered(
+    shelf: &mut FaultyShelf,
+    number: usize,
+    call: &Call,
+    into: &mut Vec<u8>,
+) -> Result<(), Fail> {
     match *call {
-        Call::Read(name, limit, answer) => {
-            shelf.read(name, limit, into) == answer && (answer.is_ok() || into.is_empty())
+        Call::Read(name, limit, want) => {
+            let answer = shelf.read(name, limit, into);
+            if answer == want && (answer.is_ok() || into.is_empty()) {
+                return Ok(());
+            }
+            let bytes = into.len();
+            Err(Fail::new(format_args!(
+                "call {number}: {answer:?} with {bytes} bytes, wanted is {want:?}"
+            )))
         }
-        Call::Write(name, bytes, answer) => shelf.write(name, bytes) == answer,
-        Call::Has(name, bytes) => shelf.files().file(name) == Some(bytes),
+        Call::Write(name, bytes, want) => {
+            let answer = shelf.write(name, bytes);
+            if answer == want {
+                return Ok(());
+            }
+            Err(Fail::new(format_args!("call {number}: {answer:?}, wanted is {want:?}")))
+        }
+        Call::Has(name, bytes) => {
+            let found = shelf.files().file(name);
+            if found == Some(bytes) {
+                return Ok(());
+            }
+            Err(Fail::new(format_args!("row {number}: {found:?}, wanted is {bytes:?}")))
+        }
     }
 }
 
@@ -99,8 +124,8 @@ fn answers_as(shelf: &mut FaultyShelf, call: &Call, into: &mut Vec<u8>) -> bool 
 fn faulty_shelf(rt: HostRuntime) -> Result<(), Fail> {
     let mut shelf = faulty(rt.alloc())?;
     let mut into = Vec::new(rt.alloc());
-    for call in FAULTY {
-        assert!(rt; answers_as(&mut shelf, call, &mut into));
+    for (number, call) in FAULTY.iter().enumerate() {
+        is_answered(&mut shelf, number, call, &mut into)?;
     }
     Ok(())
 }

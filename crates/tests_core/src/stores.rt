@@ -11,6 +11,10 @@ pub use worlds::full_world_file;
 #[cfg(test)]
 mod calls;
 #[cfg(test)]
+mod clipped;
+#[cfg(test)]
+mod crowded;
+#[cfg(test)]
 mod dag_tests;
 #[cfg(test)]
 mod files;

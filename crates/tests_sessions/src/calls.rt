@@ -215,27 +215,76 @@ pub fn tell<R: Wait, G: Gate>(
 /// A call, and what the session is to be told.
 pub type Row = (Call, Told);
 
-/// How many calls, line by line from line 1 on, are told what stands beside them.
+/// A call that was told something else than stands beside it.
+#[derive(Clone, Copy, Debug, PartialEq, Eq)]
+pub struct Wrong {
+    pub session: u16,
+    pub line: u32,
+    pub wanted: Told,
+    pub came: Told,
+}
+
+/// How many calls were told what stands beside them, and the first one that was not.
+#[derive(Clone, Copy, Debug, PartialEq, Eq)]
+pub struct Heard {
+    pub right: u32,
+    pub wrong: Option<Wrong>,
+}
+
+impl Heard {
+    /// So many calls, all of which were told what stands beside them.
+    pub fn all(right: u32) -> Heard {
+        Heard { right, wrong: None }
+    }
+
+    /// These calls and more.
+    pub fn and(self, more: Heard) -> Heard {
+        let right = self.right.saturating_add(more.right);
+        let wrong = match self.wrong {
+            Some(wrong) => Some(wrong),
+            None => more.wrong,
+        };
+        Heard { right, wrong }
+    }
+}
+
+// What one call was told.
+fn heard_once(session: u16, line: u32, wanted: Told, came: Told) -> Heard {
+    if came == wanted {
+        return Heard::all(1);
+    }
+    let wrong = Wrong {
+        session,
+        line,
+        wanted,
+        came,
+    };
+    Heard {
+        right: 0,
+        wrong: Some(wrong),
+    }
+}
+
+/// What the calls are told, line by line from line 1 on.
 pub fn answered<R: Wait, G: Gate>(
     rt: &R,
     world: &World,
     s: &mut Session,
     rows: &[Row],
     gate: &G,
-) -> u32
+) -> Heard
     requires { IsFree world.now s.old }
     ensures { IsFree world.now s.new }
 {
     let number = s.number();
-    let mut right = 0u32;
+    let mut all = Heard::all(0);
     let mut line = 0u32;
     for row in rows {
         line = line.saturating_add(1);
         gate.before(number, line);
-        if tell(rt, world, s, line, row.0, gate) == row.1 {
-            right = right.saturating_add(1);
-        }
+        let came = tell(rt, world, s, line, row.0, gate);
+        all = all.and(heard_once(number, line, row.1, came));
         gate.after(number, line);
     }
-    right
+    all
 }

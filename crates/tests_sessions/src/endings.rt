@@ -3,7 +3,7 @@ ghost use Rattle.std.specs.Prelude.{All, IfSome};
 ghost use Rattle.tests_sessions.specs.Free.{IsFree};
 
 use crate::calls::Call::{Act, Forget};
-use crate::calls::{Row, Told, answered};
+use crate::calls::{Heard, Row, Told, answered};
 use crate::worlds::{Begun, FIRST, PLAIN, SECOND, TINTED, no_models, sessions_ended, world_begun};
 use conformance::ActAnswer;
 use gate_run::NoGate;
@@ -122,24 +122,24 @@ fn left_by(ended: &Ended) -> Left {
     }
 }
 
-// The last session makes its calls, and the world is closed without it and then with it. How many
-// calls were right, how many sessions the world has, and what it leaves.
+// The last session makes its calls, and the world is closed without it and then with it. What the
+// calls were told, how many sessions the world has, and what it leaves.
 fn ends<R: Wait>(
     rt: &R,
     alloc: Global,
     world: World,
     mut sessions: Vec<Session>,
     rows: &[Row],
-) -> Option<(u32, u16, Left)>
+) -> Option<(Heard, u16, Left)>
     requires { All (IsFree world) sessions.items }
 {
     let Some(mut one) = sessions.pop() else {
         sessions_ended(&world, sessions);
         return None;
     };
-    let right = answered(rt, &world, &mut one, rows, &NoGate);
+    let heard = answered(rt, &world, &mut one, rows, &NoGate);
     let (made, ended) = closed_late(alloc, world, sessions, one)?;
-    Some((right, made, left_by(&ended)))
+    Some((heard, made, left_by(&ended)))
 }
 
 // Version 1 is forgotten, and the versions 0 and 2 are kept.
@@ -155,7 +155,7 @@ fn ended_by<R: Wait>(
     alloc: Global,
     begun: Begun,
     rows: &[Row],
-) -> Result<Option<(u32, u16, Left)>, Fail> {
+) -> Result<Option<(Heard, u16, Left)>, Fail> {
     let models = no_models(alloc);
     let (world, sessions) = world_begun(alloc, begun, models, 2)?;
     Ok(ends(rt, alloc, world, sessions, rows))
@@ -170,7 +170,10 @@ fn a_world_is_closed_with_all_its_sessions(rt: HostRuntime) -> Result<(), Fail> 
         kept: 2,
         live: [1, 1, 0, 0],
     };
-    assert_eq!(rt; ended_by(&rt, rt.alloc(), PLAIN, ROWS)?, Some((3, 2, left)));
+    assert_eq!(rt;
+        ended_by(&rt, rt.alloc(), PLAIN, ROWS)?,
+        Some((Heard::all(3), 2, left))
+    );
     Ok(())
 }
 
@@ -194,7 +197,7 @@ fn a_closed_world_keeps_its_last_versions(rt: HostRuntime) -> Result<(), Fail> {
     let last_two = Begun { keep: 2, ..PLAIN };
     assert_eq!(rt;
         ended_by(&rt, rt.alloc(), last_two, LAST_TWO)?,
-        Some((4, 2, left))
+        Some((Heard::all(4), 2, left))
     );
     Ok(())
 }
@@ -224,7 +227,7 @@ fn a_closed_world_with_tints_is_coloured(rt: HostRuntime) -> Result<(), Fail> {
     };
     assert_eq!(rt;
         ended_by(&rt, rt.alloc(), TINTED, TWO_TINTS)?,
-        Some((2, 2, left))
+        Some((Heard::all(2), 2, left))
     );
     Ok(())
 }

@@ -1,6 +1,6 @@
 //! Two sessions that go in turn, each in a thread of its own.
 use crate::calls::Call::{Act, Count, FillOnce};
-use crate::calls::{Row, Told};
+use crate::calls::{Heard, Row, Told};
 use crate::players::both_answered;
 use crate::worlds::{FIRST, PLAIN, SECOND, WHOLE, no_models, world_begun};
 use conformance::{ActAnswer, OnceAnswer};
@@ -11,18 +11,18 @@ use std::test::Fail;
 use std::thread::Threads;
 use testkit::Turns;
 
-// How many calls of two sessions of a world of side 8 are right, and whether one waited in vain.
+// What the calls of two sessions of a world of side 8 are told, and whether one waited in vain.
 fn meet<R: Threads + Wait + Sync>(
     rt: &R,
     alloc: Global,
     first: &[Row],
     second: &[Row],
-) -> Result<(u32, bool), Fail> {
+) -> Result<(Heard, bool), Fail> {
     let models = no_models(alloc);
     let (world, sessions) = world_begun(alloc, PLAIN, models, 2)?;
     let turns = Turns::new();
-    let right = both_answered(rt, alloc, &world, sessions, first, second, &turns);
-    Ok((right, turns.is_given_up()))
+    let heard = both_answered(rt, alloc, &world, sessions, first, second, &turns);
+    Ok((heard, turns.is_given_up()))
 }
 
 fn done(n: u32) -> Told {
@@ -46,7 +46,10 @@ const TOO_LATE: &[Row] = &[
 
 #[test]
 fn an_attempt_comes_too_late(rt: HostRuntime) -> Result<(), Fail> {
-    assert_eq!(rt; meet(&rt, rt.alloc(), FASTER, TOO_LATE)?, (4, false));
+    assert_eq!(rt;
+        meet(&rt, rt.alloc(), FASTER, TOO_LATE)?,
+        (Heard::all(4), false)
+    );
     Ok(())
 }
 
@@ -62,7 +65,10 @@ const MADE_AGAIN: &[Row] = &[
 
 #[test]
 fn an_edit_that_comes_too_late_is_made_again(rt: HostRuntime) -> Result<(), Fail> {
-    assert_eq!(rt; meet(&rt, rt.alloc(), ALSO_FASTER, MADE_AGAIN)?, (4, false));
+    assert_eq!(rt;
+        meet(&rt, rt.alloc(), ALSO_FASTER, MADE_AGAIN)?,
+        (Heard::all(4), false)
+    );
     Ok(())
 }
 
@@ -93,7 +99,7 @@ fn a_pinned_version_stays(rt: HostRuntime) -> Result<(), Fail> {
     let edits = whole_edits(rt.alloc(), 101)?;
     assert_eq!(rt;
         meet(&rt, rt.alloc(), edits.as_slice(), COUNTED)?,
-        (103, false)
+        (Heard::all(103), false)
     );
     Ok(())
 }

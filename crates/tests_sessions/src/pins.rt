@@ -7,7 +7,7 @@ ghost use Rattle.session.specs.SessionWorlds.{side_seen};
 ghost use Rattle.tests_sessions.specs.Free.{IsFree};
 
 use crate::calls::Call::{Act, Count, Forget};
-use crate::calls::{Row, Told, answered};
+use crate::calls::{Heard, Row, Told, answered};
 use crate::worlds::{PLAIN, no_models, sessions_ended, within, world_begun};
 use conformance::ActAnswer;
 use gate_run::NoGate;
@@ -89,8 +89,8 @@ fn is_kept(alloc: Global, world: &World, s: &mut Session, p: &Pinned, part: Boxe
     counted && listed
 }
 
-// Whether version 1, which one session pins, is kept while the other makes its calls, and how many
-// of these are right.
+// Whether version 1, which one session pins, is kept while the other makes its calls, and what
+// these are told.
 fn outlives<R: Wait>(
     rt: &R,
     alloc: Global,
@@ -99,7 +99,7 @@ fn outlives<R: Wait>(
     b: &mut Session,
     part: Boxed,
     rows: &[Row],
-) -> (bool, u32)
+) -> (bool, Heard)
     requires first { IsFree world.now a.old }
     requires second { IsFree world.now b.old }
     requires fits { FitsAt part.at part.size (side_seen world.now) }
@@ -108,12 +108,12 @@ fn outlives<R: Wait>(
 {
     match world.pin(rt, b, Some(1)) {
         Ok(pinned) => {
-            let right = answered(rt, world, a, rows, &NoGate);
+            let heard = answered(rt, world, a, rows, &NoGate);
             let kept = is_kept(alloc, world, b, &pinned, part);
             world.unpin(rt, b, pinned);
-            (kept, right)
+            (kept, heard)
         }
-        Err(_) => (false, 0),
+        Err(_) => (false, Heard::all(0)),
     }
 }
 
@@ -140,26 +140,26 @@ const FORGETS: &[Row] = &[(Forget(1), Told::Forget(Ok(2))), GONE];
 const MEETS_A_MARK: &[Row] = &[GONE];
 
 // One session makes the versions. The other one pins version 1, and the first one forgets it. Given
-// back, it can't be pinned again. Whether it was kept, and how many calls were right.
+// back, it can't be pinned again. Whether it was kept, and what the calls were told.
 fn forgotten_beside<R: Wait>(
     rt: &R,
     alloc: Global,
     world: &World,
     a: &mut Session,
     b: &mut Session,
-) -> (bool, u32)
+) -> (bool, Heard)
     requires first { IsFree world.now a.old }
     requires second { IsFree world.now b.old }
     ensures first { IsFree world.now a.new }
     ensures second { IsFree world.now b.new }
 {
     let Some(part) = within(world, PART) else {
-        return (false, 0);
+        return (false, Heard::all(0));
     };
     let edited = answered(rt, world, a, EDITS, &NoGate);
-    let (kept, right) = outlives(rt, alloc, world, a, b, part, FORGETS);
+    let (kept, heard) = outlives(rt, alloc, world, a, b, part, FORGETS);
     let refused = answered(rt, world, b, MEETS_A_MARK, &NoGate);
-    (kept, edited.saturating_add(right).saturating_add(refused))
+    (kept, edited.and(heard).and(refused))
 }
 
 fn both_forgotten_beside<R: Wait>(
@@ -167,17 +167,17 @@ fn both_forgotten_beside<R: Wait>(
     alloc: Global,
     world: &World,
     mut sessions: Vec<Session>,
-) -> (bool, u32)
+) -> (bool, Heard)
     requires { All (IsFree world.now) sessions.items }
 {
     let Some(mut a) = sessions.pop() else {
         sessions_ended(world, sessions);
-        return (false, 0);
+        return (false, Heard::all(0));
     };
     let Some(mut b) = sessions.pop() else {
         a.end();
         sessions_ended(world, sessions);
-        return (false, 0);
+        return (false, Heard::all(0));
     };
     sessions_ended(world, sessions);
     let told = forgotten_beside(rt, alloc, world, &mut a, &mut b);
@@ -192,7 +192,7 @@ fn a_pin_outlives_a_mark(rt: HostRuntime) -> Result<(), Fail> {
     let (world, sessions) = world_begun(rt.alloc(), PLAIN, models, 2)?;
     assert_eq!(rt;
         both_forgotten_beside(&rt, rt.alloc(), &world, sessions),
-        (true, 5)
+        (true, Heard::all(5))
     );
     Ok(())
 }

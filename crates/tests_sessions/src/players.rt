@@ -3,7 +3,7 @@ ghost use Rattle.std.specs.Prelude.{◌≡◌, All, IfSome};
 ghost use Rattle.gate_run.specs.Runs.{RanEach};
 ghost use Rattle.tests_sessions.specs.Free.{IsFree};
 
-use crate::calls::{Row, answered};
+use crate::calls::{Heard, Row, answered};
 use crate::worlds::sessions_ended;
 use gate_run::{Gate, Worker, run_all};
 use session::{Session, World};
@@ -11,12 +11,12 @@ use std::alloc::Global;
 use std::sync::Wait;
 use std::thread::Threads;
 
-/// A session that makes its calls, and how many of them were told what stands beside them.
+/// A session that makes its calls, and what they were told.
 pub struct Player<'a> {
     pub world: &'a World,
     pub session: Session,
     pub rows: &'a [Row],
-    pub right: u32,
+    pub heard: Heard,
 }
 
 impl<'a, G: Gate> Worker<G> for Player<'a> {
@@ -27,7 +27,7 @@ impl<'a, G: Gate> Worker<G> for Player<'a> {
     ghost ran = { λ old new. IsFree new.world.now new.session };
 
     fn run<R: Wait>(&mut self, rt: &R, gate: &G) {
-        self.right = answered(rt, self.world, &mut self.session, self.rows, gate);
+        self.heard = answered(rt, self.world, &mut self.session, self.rows, gate);
     }
 }
 
@@ -52,7 +52,7 @@ fn players_of<'a>(
             world,
             session,
             rows,
-            right: 0,
+            heard: Heard::all(0),
         });
     }
     sessions.destroy_empty();
@@ -72,27 +72,26 @@ fn all_ran<R: Threads + Wait + Sync, G: Gate + Sync, W: Worker<G> + Send>(
     workers
 }
 
-// How many calls of all of them were right. Their sessions are given up.
-fn players_ended(mut players: Vec<Player<'_>>) -> u32
+// What all of them were told. Their sessions are given up.
+fn players_ended(mut players: Vec<Player<'_>>) -> Heard
     requires { All (λ p. IsFree p.world.now p.session) players.items }
 {
-    let mut right = 0u32;
+    let mut all = Heard::all(0);
     while let Some(player) = players.pop() {
         let Player {
             world: _,
             session,
             rows: _,
-            right: more,
+            heard,
         } = player;
-        right = right.saturating_add(more);
+        all = all.and(heard);
         session.end();
     }
     players.destroy_empty();
-    right
+    all
 }
 
-/// How many calls of two sessions, each in a thread of its own where one can be had, are told what
-/// stands beside them.
+/// What the calls of two sessions are told, each in a thread of its own where one can be had.
 pub fn both_answered<R: Threads + Wait + Sync, G: Gate + Sync>(
     rt: &R,
     alloc: Global,
@@ -101,11 +100,11 @@ pub fn both_answered<R: Threads + Wait + Sync, G: Gate + Sync>(
     first: &[Row],
     second: &[Row],
     gate: &G,
-) -> u32
+) -> Heard
     requires { All (IsFree world.now) sessions.items }
 {
     let Some(players) = players_of(alloc, world, sessions, first, second) else {
-        return 0;
+        return Heard::all(0);
     };
     let players = all_ran(rt, players, gate);
     players_ended(players)

@@ -4,7 +4,7 @@ ghost use Rattle.vox_read.specs.Contents.{AreModels};
 ghost use Rattle.tests_sessions.specs.Free.{IsFree};
 
 use crate::calls::Call::{Act, Count, FillOnce, Forget, Head, Same};
-use crate::calls::{Row, Told, answered};
+use crate::calls::{Heard, Row, Told, answered};
 use crate::worlds::{AWAY, Begun, FIRST, PLAIN, SECOND, WHOLE, no_models, world_begun};
 use conformance::{ActAnswer, OnceAnswer};
 use gate_run::NoGate;
@@ -19,27 +19,26 @@ use version_log::{ForgetRefused, PinRefused, SameAt, SameRefused};
 use vox_read::Models;
 use vw_cell::{Boxed, Cell};
 
-// How many calls are right: the last session makes the first ones, and then the one before it,
-// where there is one, makes the second ones.
+// What all calls are told: the last session makes the first ones, and then the one before it, where
+// there is one, makes the second ones.
 fn rows_answered<R: Wait>(
     rt: &R,
     world: &World,
     mut sessions: Vec<Session>,
     first: &[Row],
     second: &[Row],
-) -> u32
+) -> Heard
     requires { All (IsFree world.now) sessions.items }
 {
-    let mut right = 0u32;
+    let mut all = Heard::all(0);
     let mut rows = first;
     while let Some(mut session) = sessions.pop() {
-        let more = answered(rt, world, &mut session, rows, &NoGate);
-        right = right.saturating_add(more);
+        all = all.and(answered(rt, world, &mut session, rows, &NoGate));
         rows = second;
         session.end();
     }
     sessions.destroy_empty();
-    right
+    all
 }
 
 /// The same in a new world.
@@ -50,7 +49,7 @@ pub fn answered_in<R: Wait>(
     models: Models,
     first: &[Row],
     second: &[Row],
-) -> Result<u32, Fail>
+) -> Result<Heard, Fail>
     requires { AreModels models }
 {
     let (world, sessions) = world_begun(alloc, begun, models, 2)?;
@@ -78,7 +77,7 @@ fn undos_have_their_answers(rt: HostRuntime) -> Result<(), Fail> {
     let models = no_models(rt.alloc());
     assert_eq!(rt;
         answered_in(&rt, rt.alloc(), PLAIN, models, MAKES, GOES_BACK)?,
-        9
+        Heard::all(9)
     );
     Ok(())
 }
@@ -150,7 +149,7 @@ fn a_forgotten_version_is_refused(rt: HostRuntime) -> Result<(), Fail> {
     let models = no_models(rt.alloc());
     assert_eq!(rt;
         answered_in(&rt, rt.alloc(), PLAIN, models, FORGETS, MEETS_A_MARK)?,
-        18
+        Heard::all(18)
     );
     Ok(())
 }
@@ -193,7 +192,7 @@ fn a_full_bucket_is_told(rt: HostRuntime) -> Result<(), Fail> {
     };
     assert_eq!(rt;
         answered_in(&rt, rt.alloc(), small, models, FILLS, FILLS_TOO)?,
-        5
+        Heard::all(5)
     );
     Ok(())
 }
@@ -272,7 +271,7 @@ fn the_last_versions_alone_are_held(rt: HostRuntime) -> Result<(), Fail> {
     let last_two = Begun { keep: 2, ..PLAIN };
     assert_eq!(rt;
         answered_in(&rt, rt.alloc(), last_two, models, FALLS_OUT, HELD_LAST)?,
-        13
+        Heard::all(13)
     );
     Ok(())
 }

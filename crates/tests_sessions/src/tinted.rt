@@ -5,7 +5,7 @@ ghost use Rattle.session.specs.SessionWorlds.{side_seen};
 ghost use Rattle.tests_sessions.specs.Free.{IsFree};
 
 use crate::calls::Call::{Act, Colour, Count, Same};
-use crate::calls::{Row, Told, answered};
+use crate::calls::{Heard, Row, Told, answered};
 use crate::pins::lists;
 use crate::rows::answered_in;
 use crate::worlds::{
@@ -70,7 +70,7 @@ fn a_cell_has_its_last_tint(rt: HostRuntime) -> Result<(), Fail> {
     let models = no_models(rt.alloc());
     assert_eq!(rt;
         answered_in(&rt, rt.alloc(), TINTED, models, GIVES_TINTS, GOES_BACK)?,
-        15
+        Heard::all(15)
     );
     Ok(())
 }
@@ -88,7 +88,7 @@ fn a_cell_without_tints_has_colour_1(rt: HostRuntime) -> Result<(), Fail> {
     let models = no_models(rt.alloc());
     assert_eq!(rt;
         answered_in(&rt, rt.alloc(), PLAIN, models, WITHOUT_TINTS, &[])?,
-        4
+        Heard::all(4)
     );
     Ok(())
 }
@@ -126,7 +126,7 @@ fn a_stamp_gives_the_tints_of_its_model(rt: HostRuntime) -> Result<(), Fail> {
     let models = read_models(rt.alloc(), PAIR)?;
     assert_eq!(rt;
         answered_in(&rt, rt.alloc(), TINTED, models, STAMPS, &[])?,
-        8
+        Heard::all(8)
     );
     Ok(())
 }
@@ -235,17 +235,17 @@ const LISTED: [Voxel; 5] = [
     },
 ];
 
-// How many edits were made, and whether version 4 is listed so.
-fn listed_behind<R: Wait>(rt: &R, alloc: Global, world: &World, s: &mut Session) -> (u32, bool)
+// What the edits are told, and whether version 4 is listed so.
+fn listed_behind<R: Wait>(rt: &R, alloc: Global, world: &World, s: &mut Session) -> (Heard, bool)
     requires { IsFree world.now s.old }
     ensures { IsFree world.now s.new }
 {
     let Some(part) = within(world, PART) else {
-        return (0, false);
+        return (Heard::all(0), false);
     };
-    let right = answered(rt, world, s, EDITS, &NoGate);
+    let heard = answered(rt, world, s, EDITS, &NoGate);
     let listed = lists_version(rt, alloc, world, s, 4, part, &LISTED);
-    (right, listed)
+    (heard, listed)
 }
 
 fn listed_in<R: Wait>(
@@ -253,12 +253,12 @@ fn listed_in<R: Wait>(
     alloc: Global,
     world: &World,
     mut sessions: Vec<Session>,
-) -> (u32, bool)
+) -> (Heard, bool)
     requires { All (IsFree world.now) sessions.items }
 {
     let Some(mut s) = sessions.pop() else {
         sessions_ended(world, sessions);
-        return (0, false);
+        return (Heard::all(0), false);
     };
     sessions_ended(world, sessions);
     let told = listed_behind(rt, alloc, world, &mut s);
@@ -270,6 +270,9 @@ fn listed_in<R: Wait>(
 fn cells_are_listed_with_their_tints(rt: HostRuntime) -> Result<(), Fail> {
     let models = no_models(rt.alloc());
     let (world, sessions) = world_begun(rt.alloc(), TINTED, models, 1)?;
-    assert_eq!(rt; listed_in(&rt, rt.alloc(), &world, sessions), (4, true));
+    assert_eq!(rt;
+        listed_in(&rt, rt.alloc(), &world, sessions),
+        (Heard::all(4), true)
+    );
     Ok(())
 }

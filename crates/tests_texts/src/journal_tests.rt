@@ -1,10 +1,10 @@
 use crate::acts::{ball, boxed, cell, record};
 use history_model::{
-    Act, History, JournalFault, Mark, TintAct, journal_text, position, read_journal,
+    Act, History, JournalFault, Mark, Record, TintAct, journal_text, position, read_journal,
 };
 use std::alloc::Global;
 use std::test::Fail;
-use vw_cell::Side;
+use vw_cell::{Boxed, Cell, Side};
 
 fn two_marks(alloc: Global) -> Result<Vec<Mark>, Fail> {
     Ok(vec![in alloc;
@@ -30,6 +30,40 @@ const UNDOES: &str = "voxdag journal 1\n\
     3 0 4 fill 1 0 0 1 1 1\n\
     4 0 6 undo\n\
     end\n";
+
+// The records of that journal.
+const UNDONE: [Record; 4] = [
+    Record {
+        session: 0,
+        line: 2,
+        act: Act::Fill(FIRST),
+    },
+    Record {
+        session: 0,
+        line: 3,
+        act: Act::Undo,
+    },
+    Record {
+        session: 0,
+        line: 4,
+        act: Act::Fill(SECOND),
+    },
+    Record {
+        session: 0,
+        line: 6,
+        act: Act::Undo,
+    },
+];
+
+const FIRST: Boxed = Boxed {
+    at: Cell { x: 0, y: 0, z: 0 },
+    size: Cell { x: 1, y: 1, z: 1 },
+};
+
+const SECOND: Boxed = Boxed {
+    at: Cell { x: 1, y: 0, z: 0 },
+    size: Cell { x: 1, y: 1, z: 1 },
+};
 
 const EVERY_ACT: &str = "voxdag journal 1\n\
     side 4096\n\
@@ -142,6 +176,28 @@ fn histories_stand_somewhere(rt: HostRuntime) -> Result<(), Fail> {
     assert!(rt; here.now == 3);
     assert_eq!(rt; here.past.as_slice(), [0].as_slice());
     assert_eq!(rt; here.future.as_slice(), [4].as_slice());
+    Ok(())
+}
+
+// Both edits are undone, and the second is what a redo would do again.
+#[test]
+fn a_history_of_two_undos_stands_at_its_beginning(rt: HostRuntime) -> Result<(), Fail> {
+    let undone = UNDONE;
+    let here = position(rt.alloc(), &undone).map_err(|_| "out of memory")?;
+    assert_eq!(rt; here.now, 0);
+    assert_eq!(rt; here.past.len(), 0);
+    assert_eq!(rt; here.future.as_slice(), [3].as_slice());
+    Ok(())
+}
+
+#[test]
+fn a_journal_gives_its_records(rt: HostRuntime) -> Result<(), Fail> {
+    let history = read_journal(rt.alloc(), UNDOES.as_bytes()).map_err(|_| "a fault")?;
+    let undone = UNDONE;
+    assert_eq!(rt; history.side.cells(), 8);
+    assert_eq!(rt; history.coloured, false);
+    assert_eq!(rt; history.records.as_slice(), undone.as_slice());
+    assert_eq!(rt; history.marks.len(), 0);
     Ok(())
 }
 

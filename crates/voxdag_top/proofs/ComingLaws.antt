@@ -13,11 +13,10 @@ use Rattle.commands.specs.declared.refusals.TextRefused.TheVariants.{StoreFull, 
 use Rattle.node_words.specs.declared.shares.Full.{Full}
 use Rattle.requests.specs.declared.orders.Request.{Request}
 use Rattle.script_files.specs.declared.tallies.Completed.{Completed}
-use Rattle.script_files.specs.Commands.{meaning_of}
+use Rattle.script_files.specs.Commands.{meaning_of, judged_of}
 use Rattle.commands.specs.Judging.{Follows}
 use Rattle.commands.specs.Verdicts.{Verdict, Fine, FollowsRead, FollowsText}
 use Rattle.commands.proofs.Following.{outcome_follows}
-use Rattle.script_files.proofs.Judged.{judged_of}
 use Rattle.voxdag_top.specs.declared.endings.Ending.{Ending}
 use Rattle.voxdag_top.specs.declared.endings.Ending.TheVariants.{Usage, Refused}
 use Rattle.voxdag_top.specs.declared.endings.Ending.TheVariants as endings

@@ -2,11 +2,10 @@
 use Rattle.std.proofs.Common.{◌≡◌, Option, Some, None}
 use Rattle.vw_io.specs.Outside.{Files}
 use Rattle.requests.specs.declared.orders.Request.{Request}
-use Rattle.script_files.specs.Commands.{meaning_of}
+use Rattle.script_files.specs.Commands.{meaning_of, judged_of}
 use Rattle.commands.specs.Judging.{FilesAreRead}
 use Rattle.commands.specs.Verdicts.{Verdict}
 use Rattle.commands.proofs.Following.{judged_once, judged_some, not_without}
-use Rattle.script_files.proofs.Judged.{judged_of}
 use Rattle.voxdag_top.specs.Verdicts.{JudgesWords, ReadsNoJournal}
 
 pub some_verdict : FilesAreRead → (a : Request) (files : Files) → ReadsNoJournal a

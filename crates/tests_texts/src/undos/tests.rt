@@ -67,35 +67,43 @@ fn undos_and_redos_go_to_the_tops(rt: HostRuntime) -> Result<(), Fail> {
     Ok(())
 }
 
-// Whether the targets behind so many records are these, and at most so many records were read for
-// each.
-fn are_targets(log: &mut PackedLog, records: u32, undo: Target, redo: Target) -> bool {
-    log.show(records);
-    let _before = log.take_reads();
-    let undone = undo_target(log);
-    let for_undo = log.take_reads();
-    let redone = redo_target(log);
-    let for_redo = log.take_reads();
-    undone == undo.version
-        && redone == redo.version
-        && for_undo <= undo.reads
-        && for_redo <= redo.reads
-}
-
-// The version that is gone to, and how many records may be read for it.
-#[derive(Clone, Copy)]
+// The version that is gone to, and how many records are read for it.
+#[derive(Clone, Copy, Debug)]
 struct Target {
     version: Option<u32>,
     reads: u32,
+}
+
+// Whether it is this target, and no more records were read for it.
+fn is_target(found: Target, want: Target) -> bool {
+    found.version == want.version && found.reads <= want.reads
+}
+
+// The targets behind so many records are these, and at most so many records are read for each.
+fn are_targets(log: &mut PackedLog, records: u32, undo: Target, redo: Target) -> Result<(), Fail> {
+    log.show(records);
+    let _before = log.take_reads();
+    let version = undo_target(log);
+    let reads = log.take_reads();
+    let undone = Target { version, reads };
+    let version = redo_target(log);
+    let reads = log.take_reads();
+    let redone = Target { version, reads };
+    if is_target(undone, undo) && is_target(redone, redo) {
+        return Ok(());
+    }
+    Err(Fail::new(format_args!(
+        "behind {records} records: {undone:?} and {redone:?}, wanted are {undo:?} and {redo:?}"
+    )))
 }
 
 fn above_0(version: u32) -> Option<u32> {
     version.checked_sub(1)
 }
 
-// Whether the targets behind so many records are others than those where of so many edits all but
-// `standing` are undone.
-fn wrong_at(log: &mut PackedLog, edits: u32, standing: u32, records: u32) -> bool {
+// The targets behind so many records are those where of so many edits all but `standing` are
+// undone.
+fn are_undone(log: &mut PackedLog, edits: u32, standing: u32, records: u32) -> Result<(), Fail> {
     let undone = edits.saturating_sub(standing);
     let undo = Target {
         version: above_0(standing),
@@ -109,23 +117,21 @@ fn wrong_at(log: &mut PackedLog, edits: u32, standing: u32, records: u32) -> boo
         },
         reads: undone.saturating_add(1),
     };
-    !are_targets(log, records, undo, redo)
+    are_targets(log, records, undo, redo)
 }
 
-fn wrong_undos(log: &mut PackedLog) -> u32 {
-    let mut wrong: u32 = 0;
+fn undos_are_read(log: &mut PackedLog) -> Result<(), Fail> {
     for k in 0..1001u32 {
-        wrong = wrong.saturating_add(u32::from(wrong_at(log, 1000, 1000 - k, 1000 + k)));
+        are_undone(log, 1000, 1000 - k, 1000 + k)?;
     }
-    wrong
+    Ok(())
 }
 
-fn wrong_redos(log: &mut PackedLog) -> u32 {
-    let mut wrong: u32 = 0;
+fn redos_are_read(log: &mut PackedLog) -> Result<(), Fail> {
     for k in 0..1001u32 {
-        wrong = wrong.saturating_add(u32::from(wrong_at(log, 1000, k, 2000 + k)));
+        are_undone(log, 1000, k, 2000 + k)?;
     }
-    wrong
+    Ok(())
 }
 
 #[test]
@@ -136,9 +142,8 @@ fn a_run_of_undos_and_redos_reads_its_chain(rt: HostRuntime) -> Result<(), Fail>
     append(&mut records, b'r', 1000)?;
     assert!(rt; records.len() == 3000);
     let mut log = PackedLog::new(rt.alloc(), &records).map_err(|_| "out of memory")?;
-    assert_eq!(rt; wrong_undos(&mut log), 0);
-    assert_eq!(rt; wrong_redos(&mut log), 0);
-    Ok(())
+    undos_are_read(&mut log)?;
+    redos_are_read(&mut log)
 }
 
 // A thousand times an undo of the one edit and its redo.
@@ -152,13 +157,12 @@ fn undone_and_redone(alloc: Global) -> Result<Vec<Record>, AllocError> {
     Ok(records)
 }
 
-fn wrong_pairs(log: &mut PackedLog) -> u32 {
-    let mut wrong: u32 = 0;
+fn pairs_are_read(log: &mut PackedLog) -> Result<(), Fail> {
     for k in 0..1000u32 {
-        wrong = wrong.saturating_add(u32::from(wrong_at(log, 1, 1, 2 * k + 1)));
-        wrong = wrong.saturating_add(u32::from(wrong_at(log, 1, 0, 2 * k + 2)));
+        are_undone(log, 1, 1, 2 * k + 1)?;
+        are_undone(log, 1, 0, 2 * k + 2)?;
     }
-    wrong
+    Ok(())
 }
 
 #[test]
@@ -166,6 +170,5 @@ fn the_length_of_the_history_is_not_read(rt: HostRuntime) -> Result<(), Fail> {
     let records = undone_and_redone(rt.alloc())?;
     assert!(rt; records.len() == 2001);
     let mut log = PackedLog::new(rt.alloc(), &records).map_err(|_| "out of memory")?;
-    assert_eq!(rt; wrong_pairs(&mut log), 0);
-    Ok(())
+    pairs_are_read(&mut log)
 }

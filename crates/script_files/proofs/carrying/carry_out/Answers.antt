@@ -13,7 +13,7 @@ use Rattle.commands.specs.Looks.{look_means}
 use Rattle.commands.specs.Outcomes.{Completes}
 use Rattle.script_files.specs.Runs.{run_means}
 use Rattle.commands.specs.Scenes.{scene_means}
-use Rattle.script_files.proofs.Judged.{as_told, completes_as}
+use Rattle.script_files.proofs.Telling.{as_told, completes_as}
 use Rattle.script_files.proofs.carrying.carry_out.Goals as goal
 
 pub returns-in-Ok : goal.returns-in-Ok

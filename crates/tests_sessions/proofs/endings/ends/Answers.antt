@@ -1,8 +1,8 @@
 use Rattle.tests_sessions.proofs.FreeLaws.{last_free, rest_free}
 use Rattle.tests_sessions.proofs.endings.ends.Goals as goal
 
-pub answered-right-requires : goal.answered-right-requires
-answered-right-requires g c =
+pub answered-heard-requires : goal.answered-heard-requires
+answered-heard-requires g c =
     last_free c.args.world c.args.sessions.items c.pop.new.self.items c.in-Some.one
     c.in-Some.ensures.items c.requires
 
