@@ -12,21 +12,20 @@ import base64
 import secrets
 import struct
 from collections import deque
+from functools import reduce
 from typing import Any, Callable, NamedTuple, Optional
 
 import voxdag
+from boxes import Box, common, few, grown, parts_of, reach_of, union
 from logs import About, Log, LogDown, Opened, Record
 from messages import Edit, Question, Refusal, of_library, text_of
+from surface import lists_cells, surface_of
 
 MOST_RECORDS = 65535
 MOST_WAITING = 64   # edits of one person that aren't answered yet
-PART = 64           # the side of the parts in which cells are sent
 TELL_SECONDS = 0.04
 POINT_SECONDS = 0.15
 MOST_ASKED = 5000   # questions that are kept for the transcript
-
-Box = tuple[int, ...]
-
 
 class Trail(NamedTuple):
     """Where undos and redos lead, as the log's records tell it. A row is its last version and the row before that."""
@@ -120,53 +119,6 @@ def palette_of(files: list[bytes]) -> list[int]:
     return cube + [n << 16 for n in ramp] + [n << 8 for n in ramp] + [*ramp] + [n * 0x10101 for n in ramp]
 
 
-# ---- boxes
-
-def grown(box: Box, side: int) -> Box:
-    """The box and its neighbours, whose sides may have become bare or not."""
-    low = [max(0, n - 1) for n in box[:3]]
-    return (*low, *(min(side, box[i] + box[i + 3] + 1) - low[i] for i in range(3)))
-
-
-def union(a: Box, b: Box) -> Box:
-    low = [min(a[i], b[i]) for i in range(3)]
-    return (*low, *(max(a[i] + a[i + 3], b[i] + b[i + 3]) - low[i] for i in range(3)))
-
-
-def size_of(box: Box) -> int:
-    return box[3] * box[4] * box[5]
-
-
-def few(boxes: list[Box]) -> list[Box]:
-    """The same places in fewer boxes: two become one where that has little more cells than they have."""
-    kept: list[Box] = []
-    for box in boxes:
-        at = 0
-        while at < len(kept):
-            both = union(kept[at], box)
-            if size_of(both) <= size_of(kept[at]) + size_of(box):
-                box = both
-                kept.pop(at)
-                at = 0
-            else:
-                at += 1
-        kept.append(box)
-    return kept
-
-
-def parts_of(box: Box) -> list[Box]:
-    """A box as boxes that lie each in one cube of so many cells a side."""
-    axes = []
-    for i in range(3):
-        at, end, cuts = box[i], box[i] + box[i + 3], []
-        while at < end:
-            nxt = min(end, (at // PART + 1) * PART)
-            cuts.append((at, nxt - at))
-            at = nxt
-        axes.append(cuts)
-    return [(x, y, z, a, b, c) for z, c in axes[2] for y, b in axes[1] for x, a in axes[0]]
-
-
 # ---- the room
 
 class Waiting(NamedTuple):
@@ -193,6 +145,7 @@ class Room:
         self._next = 0
         self.keys: dict[str, int] = {}
         self.records: list[Record] = []
+        self._reaches: list[Box] = []
         self.asked: deque[tuple[Question, str]] = deque(maxlen=MOST_ASKED)
         self.trail = Trail()
         self._shown = 0
@@ -232,6 +185,7 @@ class Room:
         self.file = joined(self.files)
         self.world = world_of(self._make, self.about, self.file, acts)
         self.palette = palette_of(self.files)
+        self._lists_cells = lists_cells(self.world)
         self.models = []
         try:
             while len(self.models) < 1024:
@@ -253,9 +207,18 @@ class Room:
 
     def _note(self, record: Record) -> None:
         """A record that the world has."""
+        self._reaches.append(self._reach(record.act))
         self.records.append(record)
         self.keys.setdefault(record.key, self.head)
         self.trail = self.trail.after(record.act.split(" ", 1)[0], self.head)
+
+    def _reach(self, act: str) -> Box:
+        """A box that has every cell which the next record changes: an undo and a redo those of the edit that they are of."""
+        if act == "undo":
+            return self._reaches[self.trail.now - 1]
+        if act == "redo":
+            return self._reaches[self.trail.future[0] - 1]
+        return reach_of(act, self.about.side, self.models)
 
     # ---- edits
 
@@ -469,14 +432,27 @@ class Room:
 
     def cells_of(self, version: int, part: Box) -> dict[str, Any]:
         try:
-            return {"box": part, "cells": base64.b64encode(self.world.surface_bytes(version, part)).decode()}
+            if self._lists_cells:
+                cells = self.world.surface_bytes(version, part)
+            else:
+                cells = surface_of(self.world, self.about.side, version, part)
         except voxdag.Refused as refused:
             raise of_library(refused) from None
+        return {"box": part, "cells": base64.b64encode(cells).decode()}
+
+    def _difference(self, first: int, version: int) -> Optional[Box]:
+        """A box that has every cell in which two versions differ, or None where none does."""
+        if self._lists_cells:
+            return self.world.changes(first, version)
+        if 0 in (first, version):
+            return self.world.bounds(max(first, version))
+        reaches = self._reaches[min(first, version):max(first, version)]
+        return None if self.world.same(first, version) else reduce(union, reaches)
 
     def parts_between(self, first: int, version: int) -> list[Box]:
         """The parts whose cells can look different in two versions."""
         try:
-            box = self.world.changes(first, version)
+            box = self._difference(first, version)
         except voxdag.Refused as refused:
             raise of_library(refused) from None
         return parts_of(grown(box, self.about.side)) if box else []
@@ -490,13 +466,14 @@ class Room:
             if version > first:
                 self._shown = version
                 by = [[n + 1, self.records[n].by, self.records[n].act] for n in range(max(first, version - 20), version)]
-                self.say_all({"say": "changed", "from": first, "version": version, "by": by, "parts": self._changed(first, version)})
+                self.say_all({"say": "changed", "from": first, "version": version, "by": by, "parts": self.changed(first, version)})
             await asyncio.sleep(TELL_SECONDS)
 
-    def _changed(self, first: int, version: int) -> list[dict[str, Any]]:
+    def changed(self, first: int, version: int) -> list[dict[str, Any]]:
         """The cells of the places that records changed, by their records: people who build far apart have no box that is
         between them."""
-        changed = (self.world.changes(n, n + 1) for n in range(first, version))
+        all_of_it = self._difference(first, version)
+        changed = [common(reach, all_of_it) for reach in self._reaches[first:version]] if all_of_it else []
         boxes = few([grown(box, self.about.side) for box in changed if box])
         return [self.cells_of(version, part) for box in boxes for part in parts_of(box)]
 

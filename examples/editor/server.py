@@ -36,6 +36,7 @@ from logs import About, FileLog, NotMine, SharedLog
 from messages import EDITS, Refusal, edit_of, identity, name_of, of_library, pointed_of, question_of, read, shown_of, text_of
 from room import Room
 
+OF_TINTS = ("open_as", "fill_tint", "ball_tint", "colour")
 MOST_FRAME = 1 << 20
 MOST_FILE = 1 << 20
 MOST_UNREAD = 1000
@@ -174,7 +175,7 @@ class Server:
     async def _dag(self, request: web.Request) -> web.Response:
         try:
             data = self.room.world.dag()
-        except voxdag.NotExported:
+        except (voxdag.NotExported, voxdag.OtherKind):
             data = await self._dag_by_program()
         except voxdag.Refused as refused:
             raise of_library(refused) from None
@@ -230,7 +231,8 @@ class Server:
     async def _socket(self, request: web.Request) -> web.StreamResponse:
         if len(self.room.people) >= self.words.people:
             raise Refusal("full_house", f"{self.words.people} people are here")
-        socket = web.WebSocketResponse(max_msg_size=MOST_FRAME, heartbeat=60)
+        # What is told to all would be compressed for each of them anew.
+        socket = web.WebSocketResponse(max_msg_size=MOST_FRAME, heartbeat=60, compress=False)
         await socket.prepare(request)
         person = Person(socket, self.words.rate)
         self.room.enter(person)
@@ -295,7 +297,10 @@ class Server:
         """The cells that look different, part after part; the last message says that it is."""
         parts = self.room.parts_between(first, version)
         for at in range(0, max(1, len(parts)), 8):
-            row = [self.room.cells_of(version, part) for part in parts[at:at + 8]]
+            row = []
+            for part in parts[at:at + 8]:
+                row.append(self.room.cells_of(version, part))
+                await asyncio.sleep(0)
             told = {"from": first, "version": version, "parts": row, "more": at + 8 < len(parts)}
             self._say(person, number, told)
             await person.rest()
@@ -348,25 +353,18 @@ def command(arguments: Optional[list[str]] = None) -> argparse.Namespace:
     return words
 
 
-def shows_tints() -> bool:
-    """Whether the library tells what can be seen of a world with tints."""
-    if not voxdag.load().exports("fill_tint"):
-        return False
-    with voxdag.World(4, tints=True) as world:
-        try:
-            world.surface_bytes(0, (0, 0, 0, 4, 4, 4))
-        except voxdag.OtherKind:
-            return False
-    return True
+def lacks_of_tints() -> list[str]:
+    """The calls of worlds with tints that the library lacks."""
+    return [name for name in OF_TINTS if not voxdag.load().exports(name)]
 
 
 async def serve(words: argparse.Namespace) -> None:
     log = FileLog(words.world) if words.world else SharedLog(words.etcd, words.name)
     room = Room(log, voxdag.slow.World if words.slow else voxdag.World)
     models = words.models.read_bytes() if words.models else b""
-    has_tints = words.slow or shows_tints()
+    has_tints = words.slow or not lacks_of_tints()
     if not (has_tints or words.plain):
-        print("this library shows no tints: cells of a new world are set or clear", flush=True)
+        print("this library has no tints: cells of a new world are set or clear", flush=True)
     await room.open(About(words.side, has_tints and not words.plain, words.cap), models)
     server = Server(room, words)
     runner = web.AppRunner(server.app(), access_log=None)

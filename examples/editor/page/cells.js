@@ -58,6 +58,11 @@ export class Cells {
     this.#mark(x - 1, y - 1, z - 1, x + a, y + b, z + c);
   }
 
+  /** Has all that is there drawn again. */
+  renew() {
+    this.cubes.forEach((cube, number) => cube && this.changed.add(number));
+  }
+
   // Cubes whose pictures change: shades reach one cell further than the cells.
   #mark(...ends) {
     const [x, y, z, u, v, w] = ends.map((n) => Math.max(0, Math.min(this.side - 1, n)) >> 5);

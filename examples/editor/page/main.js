@@ -10,7 +10,7 @@ import { Versions } from "./versions.js";
 
 const $ = (id) => document.getElementById(id);
 const canvas = $("world");
-const state = { me: 0, people: [], tints: true, pointed: null, hover: null, cursor: null, drag: null, isStale: true };
+const state = { me: 0, people: [], tints: true, colours: [], pointed: null, hover: null, cursor: null, drag: null, isStale: true };
 let picture, cells, camera, brush, versions;
 
 // ---- the picture
@@ -286,6 +286,14 @@ function welcome(message) {
   showVersions();
 }
 
+// The browser took the picture's memory away, and gave it back.
+function drawAnew() {
+  picture = new Picture(canvas);
+  picture.colours(state.colours);
+  cells.renew();
+  again();
+}
+
 function begin(side) {
   cells = new Cells(side, state.tints ? 0 : HEIGHTS);
   camera = new Camera(side);
@@ -303,7 +311,8 @@ function begin(side) {
 function takeModels(message) {
   brush.models = message.models;
   models.fill(message.models.map((size, n) => ({ words: `${n}: ${size.join(" × ")}`, label: `model ${n}, ${size.join(" by ")} cells` })));
-  picture.colours(state.tints ? message.palette : heightColours());
+  state.colours = state.tints ? message.palette : heightColours();
+  picture.colours(state.colours);
   tell("palette-name", state.tints ? "Palette" : "Colours tell heights: cells have no tints here");
   if (state.tints) palette.fill(message.palette.map((number, n) => ({ label: `tint ${n + 1}`, title: `tint ${n + 1}`, colour: colourOf(number) })));
 }
@@ -349,6 +358,8 @@ function listen() {
     camera.zoom(event.deltaY * 0.001);
     again();
   }, { passive: false });
+  canvas.addEventListener("webglcontextlost", (event) => event.preventDefault());
+  canvas.addEventListener("webglcontextrestored", drawAnew);
   document.addEventListener("keydown", key);
   addEventListener("resize", again);
   $("undo").addEventListener("click", () => make({ do: "undo" }));
@@ -390,6 +401,9 @@ window.editor = {
     isDrawn: !state.isStale && cells?.changed.size === 0,
     asks: link?.asks,
     angle: camera?.angle,
+    tints: state.tints,
+    tint: brush?.tint,
+    cursor: state.cursor,
   }),
   at: (x, y, z) => cells.at(x, y, z) & 255,
   look: (angle, tilt, far, place) => {

@@ -26,6 +26,7 @@ FLAGS = ("--headless=new", "--no-sandbox", "--use-angle=swiftshader", "--enable-
          "--window-size=1280,860", "--force-device-scale-factor=1", "--disable-gpu-watchdog", "--disable-hang-monitor", "--no-first-run",
          "--disable-background-timer-throttling", "--disable-renderer-backgrounding", "--disable-backgrounding-occluded-windows")
 STARTS = 5
+TINT = 97
 # How many points of the picture are brighter than all but cells and boxes.
 POINTS = """
 const canvas = document.getElementById("world"), gl = canvas.getContext("webgl2");
@@ -37,6 +38,23 @@ return count;
 """
 
 
+# How many points of the picture have a colour, its three parts from 0 to 255.
+COLOURED = """
+const canvas = document.getElementById("world"), gl = canvas.getContext("webgl2");
+const bytes = new Uint8Array(4 * canvas.width * canvas.height);
+gl.readPixels(0, 0, canvas.width, canvas.height, gl.RGBA, gl.UNSIGNED_BYTE, bytes);
+let count = 0;
+for (let n = 0; n < bytes.length; n += 4) count += [0, 1, 2].every((part) => Math.abs(bytes[n + part] - arguments[part]) < 2);
+return count;
+"""
+# The colour of a button.
+COLOUR = "return getComputedStyle(arguments[0]).backgroundColor.match(/\\d+/g).map(Number)"
+# Takes the picture's memory away, as a browser does where the graphics processor failed; it has `give` to give it back.
+LOSE = """
+const canvas = document.getElementById("world"), memory = canvas.getContext("webgl2").getExtension("WEBGL_lose_context");
+canvas.addEventListener("webglcontextlost", () => (window.give = () => memory.restoreContext()), { once: true });
+memory.loseContext();
+"""
 # The picture as it is now was handed on to be shown.
 FRAMES = "const done = arguments[0]; requestAnimationFrame(() => requestAnimationFrame(() => requestAnimationFrame(done)));"
 
@@ -214,6 +232,44 @@ def tools(server: Editor, ann: Page) -> None:
     told("the right button turns the world", ann.wait(lambda now: abs(now["angle"] - before) > 0.2), [before, ann.told()["angle"]])
 
 
+def tints(server: Editor, ann: Page, bo: Page) -> None:
+    """A tint that is chosen from the palette is that of what is built: at both pages, in the picture and in a save."""
+    buttons = ann.driver.find_elements(By.CSS_SELECTOR, "#palette button")
+    if not ann.told()["tints"]:
+        told("a world without tints has no palette", not buttons, len(buttons))
+        return
+    newest = ann.told()["newest"]
+    buttons[TINT - 1].click()
+    ann.keys(Keys.ESCAPE, "b", "t", *[Keys.PAGE_UP] * 30, Keys.ENTER, *[Keys.ARROW_RIGHT] * 6, *[Keys.ARROW_UP] * 6, Keys.ENTER)
+    cell = ann.told()["cursor"]
+    built = all([page.rests(lambda now: now["shown"] == newest + 1) for page in (ann, bo)])
+    seen = [page.at(*cell) for page in (ann, bo)]
+    saved = server.get(f"/save.vox?version={newest + 1}&box={','.join(map(str, cell))},1,1,1")[1][-1]
+    told(f"both pages and a save have tint {TINT}, of {len(buttons)} that the palette has", built and seen == [TINT, TINT] and saved == TINT
+         and len(buttons) == 255, [seen, saved, len(buttons)])
+    colour = ann.driver.execute_script(COLOUR, buttons[TINT - 1])
+    ann.look(0.75, 1.4, 24, cell)
+    ann.keys(Keys.ESCAPE, "v")
+    ann.rests()
+    points = ann.driver.execute_script(COLOURED, *colour)
+    told(f"the picture has the palette's colour {colour} in {points} points", points > 1000, points)
+    buttons[0].click()
+    before = ann.told()["tint"]
+    canvas = ann.element("world")
+    webdriver.ActionChains(ann.driver).key_down(Keys.ALT).move_to_element(canvas).click().key_up(Keys.ALT).perform()
+    told("Alt and a click take the tint", before == 1 and ann.wait(lambda now: now["tint"] == TINT), [before, ann.told()["tint"]])
+
+
+def lost_picture(page: Page) -> None:
+    """A picture whose memory the browser took away is drawn again once it is given back."""
+    page.rests()
+    before = page.points()
+    page.driver.execute_script(LOSE)
+    is_lost = until(lambda: page.driver.execute_script("return window.give !== undefined")) and page.points() == 0
+    page.driver.execute_script("window.give()")
+    told("a picture that is lost is drawn again", is_lost and until(lambda: page.points() > before * 0.9), [before, is_lost, page.points()])
+
+
 def after_a_kill(server: Editor, ann: Page) -> None:
     """What is edited while the server is gone is made once it is back."""
     newest = ann.told()["newest"]
@@ -250,6 +306,7 @@ async def pointed(server: Editor, page: Page, file: Path) -> None:
             await person.tell({"do": "point", "at": at})
         loop = asyncio.get_running_loop()
         await loop.run_in_executor(None, page.rests, lambda now: [one["at"] for one in now["people"]] == [None, *points])
+        page.driver.execute_script("document.activeElement.blur()")
         await loop.run_in_executor(None, page.picture, file)
         for person in people:
             await person.leave()
@@ -282,6 +339,8 @@ def in_browser(work: Path, options: list[str], pictures: Path) -> None:
         old_version(ann, bo, pictures)
         files(server, ann)
         tools(server, ann)
+        tints(server, ann, bo)
+        lost_picture(ann)
         complaints = ann.faults() + bo.faults()
         told("no page complained", not complaints, complaints)
         after_a_kill(server, ann)

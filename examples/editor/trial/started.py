@@ -56,7 +56,8 @@ def until(is_so: Callable[[], bool], each: float = 0.1) -> bool:
 def free_port() -> int:
     """A port that nobody listens at, and that the system gives to no line that goes out: a server that is killed can be
     started there again."""
-    low, high = map(int, Path("/proc/sys/net/ipv4/ip_local_port_range").read_text().split())
+    told_range = Path("/proc/sys/net/ipv4/ip_local_port_range")
+    low, high = map(int, told_range.read_text().split()) if told_range.is_file() else (32_768, 60_999)
     ports = [port for port in range(10_000, 65_536) if not low <= port <= high] or [*range(10_000, 65_536)]
     while True:
         port = random.SystemRandom().choice(ports)
