@@ -1,6 +1,6 @@
-/* A world that is gone on with, timed: journal FILE CHANGES writes the journal of so many small fills, journal FILE opens it
- * and gives it again. With the file alone it prints the processor's milliseconds for both, how many versions there are, and
- * whether the bytes are the file's. */
+/* A world that is gone on with, timed: journal FILE CHANGES writes the journal of so many changes, which fill one of 2,000
+ * small boxes and erase it again; journal FILE opens it and gives it again, and prints the processor's milliseconds for both,
+ * how many versions there are, and whether the bytes are the file's. */
 #define _POSIX_C_SOURCE 200809L
 #include "voxdag.h"
 #include <stdio.h>
@@ -10,14 +10,7 @@
 
 #define SIDE 256u
 #define ROOM (1u << 24)
-static uint64_t state = 1;
-
-static uint32_t draw(uint32_t end)
-{
-    state = state * 6364136223846793005u + 1442695040888963407u;
-    return (uint32_t)(state >> 33) % end;
-}
-
+static const voxdag_plan plan = {SIDE, 256, 0, 0};
 static double now(void)
 {
     struct timespec t;
@@ -31,12 +24,13 @@ static int write_journal(const char *name, uint32_t changes, uint8_t *text)
     voxdag_world w = VOXDAG_CLOSED;
     size_t length = 0;
     FILE *out = fopen(name, "wb");
-    if (!out || voxdag_open(&w, SIDE)) return 1;
+    if (!out || voxdag_open_as(&w, &plan, NULL, 0)) return 1;
     for (uint32_t i = 0; i < changes; i++) {
         voxdag_box b;
-        b.at.x = draw(SIDE - 4); b.at.y = draw(SIDE - 4); b.at.z = draw(SIDE - 4);
-        b.size.x = 1 + draw(4); b.size.y = 1 + draw(4); b.size.z = 1 + draw(4);
-        if (voxdag_fill(&w, &b)) return 1;
+        uint32_t n = i / 2 % 2000;
+        b.at.x = 7 * n % (SIDE - 4); b.at.y = 31 * n % (SIDE - 4); b.at.z = 113 * n % (SIDE - 4);
+        b.size.x = 1 + n % 4; b.size.y = 1 + n / 4 % 4; b.size.z = 1 + n / 16 % 4;
+        if (i % 2 ? voxdag_erase(&w, &b) : voxdag_fill(&w, &b)) return 1;
     }
     if (voxdag_journal(&w, text, ROOM, &length)) return 1;
     return fwrite(text, 1, length, out) != length || fclose(out) != 0 || voxdag_close(&w) != VOXDAG_OK;
@@ -45,7 +39,6 @@ static int write_journal(const char *name, uint32_t changes, uint8_t *text)
 static int open_journal(const char *name, uint8_t *text, uint8_t *again)
 {
     voxdag_world w = VOXDAG_CLOSED;
-    voxdag_plan plan = {SIDE, 256, 0, 0};
     uint32_t line = 0, newest = 0;
     size_t given = 0;
     FILE *in = fopen(name, "rb");
