@@ -22,9 +22,9 @@
  *
  * MEMORY. A world takes all memory of its store when it is opened (docs/LIBRARY.md says how much).
  * Opening, any change, saving, surfaces, regions, the journal and the file of versions may answer
- * VOXDAG_NO_MEMORY at any time, and then nothing changed: that memory is there is nothing a library can promise. Closing,
- * forgetting and questions never do. No call ends the program, waits or prints. malloc, realloc and free are those
- * of the program: of one allocator, and aligned as C asks.
+ * VOXDAG_NO_MEMORY at any time, and then nothing changed: that memory is there is nothing a library can
+ * promise. Closing, forgetting and questions never do. No call ends the program, waits or prints.
+ * malloc, realloc and free are those of the program: of one allocator, and aligned as C asks.
  *
  * THREADS. One call at a time on each world: keep it on one thread, or put a lock of your own round
  * each call; then a world may go from thread to thread. Different worlds have nothing in common.
@@ -268,7 +268,7 @@ static inline voxdag_status voxdag_copy(voxdag_world *w, const voxdag_box *part,
 }
 
 /* Sets the cells of a model, whose number counts from 0 in its file, with its least corner at `at`.
- * The model's whole size lies in the world. */
+ * The model's whole size lies in the world. In a world with tints they get the model's colours. */
 static inline voxdag_status voxdag_stamp(voxdag_world *w, uint32_t model, const voxdag_place *at)
 {
     if (!w || !at) return VOXDAG_NULL;
@@ -320,8 +320,8 @@ static inline voxdag_status voxdag_newest(voxdag_world *w, uint32_t *version)
     return voxdag_c_newest(w, version);
 }
 
-/* How the world is open: its side, its cap as a number from 1 to 256, how many versions it keeps, and
- * whether its cells have tints. */
+/* How the world is open: its side, its cap as a number from 1 to 256, how many of its last versions it
+ * keeps, 0 for all, and whether its cells have tints. */
 static inline voxdag_status voxdag_about(voxdag_world *w, voxdag_plan *plan)
 {
     if (!w || !plan) return VOXDAG_NULL;
@@ -469,7 +469,7 @@ static inline voxdag_status voxdag_flood(voxdag_world *w, uint32_t version, cons
 
 /* The text of the journal: all records and marks. What was done by these calls is of session 0, and
  * has as its line its own number among the changes and forgotten versions that were accepted, from 1,
- * or from the number of those that the journal had by which the world was opened. */
+ * or from one more than the number of those that the journal had by which the world was opened. */
 static inline voxdag_status voxdag_journal(voxdag_world *w, uint8_t *out, size_t size, size_t *needed)
 {
     uint8_t none = 0;
@@ -477,8 +477,8 @@ static inline voxdag_status voxdag_journal(voxdag_world *w, uint8_t *out, size_t
     return voxdag_c_journal(w, out ? out : &none, size, needed);
 }
 
-/* The file of all versions that aren't forgotten (docs/DAG_FILES.md): the bytes that `voxdag dag` makes
- * of the world's journal, as no other file has these versions. */
+/* The file of all versions that aren't forgotten, as `voxdag dag` makes one of the world's journal
+ * (docs/DAG_FILES.md); with tints that of their store, of four times the side. */
 static inline voxdag_status voxdag_dag(voxdag_world *w, uint8_t *out, size_t size, size_t *needed)
 {
     uint8_t none = 0;

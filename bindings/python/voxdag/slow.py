@@ -1,6 +1,7 @@
 """The world of `voxdag.World` in plain Python, written from the definitions alone: slow, and easy to believe.
 
-It has the same methods, and raises the same exceptions, so a program can be tried where the library isn't; and the
+It has the same methods, and raises the same exceptions (but that it answers `changes`, `surface` and `flood` of worlds
+with tints too), so a program can be tried where the library isn't; and the
 library is compared with it (`oracle/library`). The definitions:
 
 - Version 0 has no set cell, and record n makes version n. A cell has a tint, 0 where it isn't set. A fill and a ball
@@ -125,7 +126,8 @@ def _numbers(numbers: Sequence[int], error: type[Exception] = Outside) -> tuple[
 
 
 class World:
-    """The same world as `voxdag.World`. `library` is taken and not looked at."""
+    """The same world as `voxdag.World`, but for its own answers to `changes`, `surface` and `flood` with tints. `library` is
+    taken and not looked at."""
 
     def __init__(self, side: int, *, tints: bool = False, cap: int = 0, keep: int = 0, models: bytes = b"", library: Any = None) -> None:
         if side not in SIDES or not 0 <= cap <= 256 or (tints and side > 1024) or not 0 <= keep < 1 << 32:
@@ -320,22 +322,28 @@ class World:
 
     def fill(self, box: Sequence[int], tint: Optional[int] = None) -> int:
         self._open()
-        return self._change("fill", (*_numbers(box), self._tint(tint)))
+        tint = self._tint(tint)
+        return self._change("fill", (*_numbers(box), tint))
 
     def erase(self, box: Sequence[int]) -> int:
+        self._open()
         return self._change("erase", _numbers(box))
 
     def ball(self, centre: Sequence[int], radius: int, tint: Optional[int] = None) -> int:
         self._open()
-        return self._change("ball", (*_numbers((*centre, radius)), self._tint(tint)))
+        tint = self._tint(tint)
+        return self._change("ball", (*_numbers((*centre, radius)), tint))
 
     def carve(self, centre: Sequence[int], radius: int) -> int:
+        self._open()
         return self._change("carve", _numbers((*centre, radius)))
 
     def copy(self, box: Sequence[int], to: Sequence[int]) -> int:
+        self._open()
         return self._change("copy", _numbers((*box, *to)))
 
     def stamp(self, model: int, at: Sequence[int]) -> int:
+        self._open()
         return self._change("stamp", (*_numbers((model,), NoModel), *_numbers(at)))
 
     def undo(self) -> int:

@@ -222,7 +222,7 @@ class World:
         return self._change("copy", _box(box), _place(to))
 
     def stamp(self, model: int, at: Sequence[int]) -> int:
-        """Sets the cells of a model with its least corner at `at`."""
+        """Sets the cells of a model with its least corner at `at`; with tints they get its colours."""
         return self._change("stamp", _number(model), _place(at))
 
     def undo(self) -> int:

@@ -292,7 +292,8 @@ impl World {
         Ok(w)
     }
 
-    /// How the world is open: its side, its cap as a number from 1 to 256, how many versions it keeps, and its tints.
+    /// How the world is open: its side, its cap as a number from 1 to 256, how many of its last versions it keeps, 0 for all, and its
+    /// tints.
     #[cfg(voxdag = "about")]
     pub fn about(&mut self) -> Answer<Plan> {
         let mut plan = Plan::default();

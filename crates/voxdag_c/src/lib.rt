@@ -2,8 +2,8 @@
 //!
 //! It touches memory alone, its own and what C hands in. Each number that C hands in is tested
 //! before it counts. A status is 0 where a command was carried out, and else says why not. What
-//! each call does is said in `specs/held/Calls.antt`, and `include/voxdag.h` has all of
-//! this in the words of C.
+//! each call does is said in `Calls.antt`, `Facts.antt` and `GoingOn.antt` of `specs/held/`, and
+//! `include/voxdag.h` has all of this in the words of C.
 #![tactic(auto)]
 
 mod held;
@@ -130,7 +130,8 @@ pub extern "C" fn voxdag_c_copy(alloc: Global, handle: &mut Handle, part: &CBox,
     }
 }
 
-/// Sets the cells of a model, whose number counts from 0, with its least corner at the place.
+/// Sets the cells of a model, whose number counts from 0, with its least corner at the place. In a
+/// world with tints they get the model's colours.
 #[tactic(auto, using(crate::proofs::Through::through_closed, crate::proofs::Through::through_open))]
 #[unsafe(no_mangle)]
 pub extern "C" fn voxdag_c_stamp(
@@ -494,7 +495,8 @@ pub extern "C" fn voxdag_c_dag(
     }
 }
 
-/// The least box of all cells in which two versions differ, where they do.
+/// The least box of all cells in which two versions of a world without tints differ, where they
+/// do.
 #[tactic(auto, using(crate::proofs::Through::through_closed, crate::proofs::Through::through_open))]
 #[unsafe(no_mangle)]
 pub extern "C" fn voxdag_c_changes(
@@ -523,7 +525,8 @@ pub extern "C" fn voxdag_c_changes(
     }
 }
 
-/// The cells of a box of a version that can be seen, and how many they are.
+/// The cells of a box of a version of a world without tints that can be seen, and how many they
+/// are.
 #[tactic(auto, using(crate::proofs::Through::through_closed, crate::proofs::Through::through_open))]
 #[unsafe(no_mangle)]
 pub extern "C" fn voxdag_c_surface(
@@ -550,8 +553,8 @@ pub extern "C" fn voxdag_c_surface(
     }
 }
 
-/// The region of a box of a version that is connected with a cell: how many cells, and its VOX
-/// file.
+/// The region of a box of a version of a world without tints that is connected with a cell: how
+/// many cells, and its VOX file.
 #[tactic(auto, using(crate::proofs::Through::through_closed, crate::proofs::Through::through_open))]
 #[unsafe(no_mangle)]
 pub extern "C" fn voxdag_c_flood(

@@ -14,7 +14,8 @@ use std::alloc::Global;
 use vw_cell::{Boxed, Cell};
 
 impl CWorld {
-    /// The least box of all cells in which two versions differ, where they do.
+    /// The least box of all cells in which two versions of a world without tints differ, where they
+    /// do.
     pub fn changes(&mut self, a: u32, b: u32, some: &mut bool, least: &mut CBox) -> u32
         ensures differs { ByKind false self.old
             ((some.new ≡ some.old) × (least.new ≡ least.old))
@@ -50,7 +51,7 @@ impl CWorld {
     }
 
     /// Writes the cells of a box of a version that can be seen, where there is room for them, and
-    /// says how many they are. The box has 256 cells a side at most.
+    /// says how many they are. The box has 256 cells a side at most, and the world no tints.
     pub fn surface(
         &mut self,
         alloc: Global,
@@ -105,7 +106,7 @@ impl CWorld {
 
     /// Writes the VOX file of the cells of a box of a version that ways through its clear cells
     /// join with one of its cells, where there is room for it, and says how many cells and how
-    /// many bytes these are. The box has 256 cells a side at most.
+    /// many bytes these are. The box has 256 cells a side at most, and the world no tints.
     pub fn flood(
         &mut self,
         alloc: Global,
