@@ -142,38 +142,49 @@ const SET: &[(Cell, bool)] = &[
     (Cell { x: 4, y: 0, z: 0 }, false),
 ];
 
-// Whether of these cells just those are set that are said to be.
-fn are_set(world: &mut StoredWorld, cells: &[(Cell, bool)]) -> bool {
+// The first of these cells that isn't set where it is said to be, or is where it isn't.
+fn wrong_cell(world: &mut StoredWorld, cells: &[(Cell, bool)]) -> Option<Cell> {
     for &(c, is_set) in cells {
         if world.ask(&Question::Get(c)) != Some(Found::Is(is_set)) {
-            return false;
+            return Some(c);
         }
     }
-    true
+    None
 }
 
-// Whether just these cells are set after the copy, and its least box is that of the first four.
-fn are_copied(alloc: Global, stencil: &Stencil) -> bool {
+/// A wrong cell after the copy, and the least box.
+#[derive(Clone, Copy, Debug, PartialEq, Eq)]
+struct Copied {
+    wrong: Option<Cell>,
+    bounds: Option<Found>,
+}
+
+fn after_copy(alloc: Global, stencil: &Stencil) -> Option<Copied> {
     match edited(alloc, 8, MOVED, stencil) {
         Some(mut world) => {
-            are_set(&mut world, SET)
-                && world.ask(&Question::Bounds) == Some(Found::Extent(Some(FOUR)))
+            let wrong = wrong_cell(&mut world, SET);
+            let bounds = world.ask(&Question::Bounds);
+            Some(Copied { wrong, bounds })
         }
-        None => false,
+        None => None,
     }
 }
 
-fn copies(alloc: Global) -> bool {
+fn copies(alloc: Global) -> Option<Copied> {
     match stencil_of(alloc, [1, 1, 1], &[]) {
-        Some(stencil) => are_copied(alloc, &stencil),
-        None => false,
+        Some(stencil) => after_copy(alloc, &stencil),
+        None => None,
     }
 }
 
 // The cells at x = 0, 1 and 3: those before the copy, and not the one that it wrote.
 #[test]
 fn copies_read_the_cells_before(rt: HostRuntime) {
-    assert!(rt; copies(rt.alloc()));
+    let want = Copied {
+        wrong: None,
+        bounds: Some(Found::Extent(Some(FOUR))),
+    };
+    assert_eq!(rt; copies(rt.alloc()), Some(want));
 }
 
 /// A model of three cells, which stand at 3 3 3, 5 3 3 and 4 4 4 of the world, and of a voxel of
@@ -224,7 +235,7 @@ fn leaves(world: &mut StoredWorld, stencil: &Stencil, cells: u64, set: &[(Cell, 
     world.unstamp(stencil, SPREAD_AT).is_ok()
         && world.held() == 0
         && number_of_cells(world) == Some(cells)
-        && are_set(world, set)
+        && wrong_cell(world, set).is_none()
 }
 
 // Whether it does so after these edits.
@@ -280,21 +291,26 @@ fn usual_world(alloc: Global) -> Option<StoredWorld> {
     }
 }
 
-// Whether each edit leaves so many cells, meets no full bucket and keeps no share.
-fn leave_cells(world: &mut StoredWorld, edits: &[(Act, u64)], stencil: &Stencil) -> bool {
+/// An edit that meets a full bucket, keeps a share, or leaves another number of cells than it
+/// should, with the cells that it leaves.
+type Wrong = Option<(Act, Option<u64>)>;
+
+// The first wrong one of these edits.
+fn wrong_edit(world: &mut StoredWorld, edits: &[(Act, u64)], stencil: &Stencil) -> Wrong {
     for (act, cells) in edits {
         let is_done = world.edit(act, stencil).is_ok() && world.held() == 0;
-        if !is_done || number_of_cells(world) != Some(*cells) {
-            return false;
+        let found = number_of_cells(world);
+        if !is_done || found != Some(*cells) {
+            return Some((*act, found));
         }
     }
-    true
+    None
 }
 
-fn lay_floors(alloc: Global, stencil: &Stencil) -> bool {
+fn lay_floors(alloc: Global, stencil: &Stencil) -> Option<Wrong> {
     match usual_world(alloc) {
-        Some(mut world) => leave_cells(&mut world, FLOORS, stencil),
-        None => false,
+        Some(mut world) => Some(wrong_edit(&mut world, FLOORS, stencil)),
+        None => None,
     }
 }
 
@@ -305,17 +321,17 @@ fn floor_stencil(alloc: Global) -> Option<Stencil> {
     }
 }
 
-fn floors(alloc: Global) -> bool {
+fn floors(alloc: Global) -> Option<Wrong> {
     match floor_stencil(alloc) {
         Some(stencil) => lay_floors(alloc, &stencil),
-        None => false,
+        None => None,
     }
 }
 
 // A floor of 126 by 126 voxels in a model of that height, twice, and then once more by a copy.
 #[test]
 fn floors_are_stamped(rt: HostRuntime) {
-    assert!(rt; floors(rt.alloc()));
+    assert_eq!(rt; floors(rt.alloc()), Some(None));
 }
 
 /// Blocks of a world that has two models of two leaves at `PLACE`, and whether these are the same
@@ -348,32 +364,47 @@ const LEAVES: &[[u8; 4]] = &[[0, 0, 0, 1], [5, 1, 1, 1], [5, 2, 2, 1]];
 
 const OTHER_LEAVES: &[[u8; 4]] = &[[0, 0, 0, 1], [5, 1, 1, 1], [6, 2, 2, 1]];
 
-// Whether the stencils agree in just these blocks.
-fn agree_as(one: &Stencil, other: &Stencil, rows: &[(Cell, u8, bool)]) -> bool {
+// The first of these blocks, with its level, in which the stencils don't agree though they should,
+// or do though they shouldn't.
+fn wrong_block(one: &Stencil, other: &Stencil, rows: &[(Cell, u8, bool)]) -> Option<(Cell, u8)> {
     for &(at, level, is_same) in rows {
         if level > 10 || one.agrees(other, PLACE, at, level) != is_same {
-            return false;
+            return Some((at, level));
         }
     }
-    true
+    None
 }
 
-// Whether it agrees with the stencil of this model in just these blocks, either way, and with
-// itself.
+/// The wrong blocks of a stencil beside another, of that beside the first, and of the first beside
+/// itself.
+#[derive(Clone, Copy, Debug, PartialEq, Eq)]
+struct WrongBlocks {
+    forth: Option<(Cell, u8)>,
+    back: Option<(Cell, u8)>,
+    own: Option<(Cell, u8)>,
+}
+
+const NONE_WRONG: WrongBlocks = WrongBlocks {
+    forth: None,
+    back: None,
+    own: None,
+};
+
+// The stencil beside that of this model.
 fn agree_with(
     alloc: Global,
     one: &Stencil,
     size: [u8; 3],
     voxels: &[[u8; 4]],
     rows: &[(Cell, u8, bool)],
-) -> bool {
+) -> Option<WrongBlocks> {
     match stencil_of(alloc, size, voxels) {
-        Some(other) => {
-            agree_as(one, &other, rows)
-                && agree_as(&other, one, rows)
-                && agree_as(one, one, &[(ORIGIN, 10, true)])
-        }
-        None => false,
+        Some(other) => Some(WrongBlocks {
+            forth: wrong_block(one, &other, rows),
+            back: wrong_block(&other, one, rows),
+            own: wrong_block(one, one, &[(ORIGIN, 10, true)]),
+        }),
+        None => None,
     }
 }
 
@@ -383,22 +414,24 @@ fn leaves_agree(
     size: [u8; 3],
     voxels: &[[u8; 4]],
     rows: &[(Cell, u8, bool)],
-) -> bool {
+) -> Option<WrongBlocks> {
     match stencil_of(alloc, [8, 4, 4], LEAVES) {
         Some(one) => agree_with(alloc, &one, size, voxels, rows),
-        None => false,
+        None => None,
     }
 }
 
 #[test]
 fn stencils_agree_in_blocks_of_the_same_places(rt: HostRuntime) {
-    assert!(rt; leaves_agree(rt.alloc(), [8, 4, 4], OTHER_LEAVES, BESIDE));
+    let wrong = leaves_agree(rt.alloc(), [8, 4, 4], OTHER_LEAVES, BESIDE);
+    assert_eq!(rt; wrong, Some(NONE_WRONG));
 }
 
 #[test]
 fn stencils_of_two_sizes_never_agree(rt: HostRuntime) {
     let rows = &[(PLACE, 0, false), (ORIGIN, 0, false)];
-    assert!(rt; leaves_agree(rt.alloc(), [8, 4, 5], LEAVES, rows));
+    let wrong = leaves_agree(rt.alloc(), [8, 4, 5], LEAVES, rows);
+    assert_eq!(rt; wrong, Some(NONE_WRONG));
 }
 
 /// Blocks of a world that has a model of two leaves at `PLACE`, the first filled and the second
@@ -443,25 +476,26 @@ fn is_shown(found: StencilCover, wanted: StencilCover) -> bool {
     }
 }
 
-fn show_as(stencil: &Stencil, rows: &[(Cell, u8, StencilCover)]) -> bool {
+// The first of these blocks, with its level, that is shown otherwise.
+fn wrong_cover(stencil: &Stencil, rows: &[(Cell, u8, StencilCover)]) -> Option<(Cell, u8)> {
     for &(at, level, wanted) in rows {
         if level > 10 || !is_shown(stencil.coverage(PLACE, at, level), wanted) {
-            return false;
+            return Some((at, level));
         }
     }
-    true
+    None
 }
 
-fn halves_show(alloc: Global) -> bool {
+fn halves_show(alloc: Global) -> Option<Option<(Cell, u8)>> {
     match half_filled(alloc) {
-        Some(stencil) => show_as(&stencil, HALVES),
-        None => false,
+        Some(stencil) => Some(wrong_cover(&stencil, HALVES)),
+        None => None,
     }
 }
 
 #[test]
 fn stencils_show_blocks_that_are_filled_or_empty(rt: HostRuntime) {
-    assert!(rt; halves_show(rt.alloc()));
+    assert_eq!(rt; halves_show(rt.alloc()), Some(None));
 }
 
 /// Sides, edits of which the second meets a full bucket, and the level of that bucket.
