@@ -51,10 +51,9 @@ pub fn closes_blank(alloc: Global, table: NodeTable, passes: Vec<Pass>) -> bool
     }
 }
 
-// Whether closing is refused for passes that are missing: how many were made, and how many came
-// back.
+// How many passes were made and how many came back, where closing is refused for those missing.
 #[tactic(auto, using(crate::proofs::Giving::back_spare))]
-fn is_refused(alloc: Global, table: NodeTable, passes: Vec<Pass>, numbers: (u16, u32)) -> bool
+fn is_refused(alloc: Global, table: NodeTable, passes: Vec<Pass>) -> Option<(u16, u32)>
     requires { All (IsSpare table) passes.items }
 {
     match table.close(alloc, passes) {
@@ -66,10 +65,13 @@ fn is_refused(alloc: Global, table: NodeTable, passes: Vec<Pass>, numbers: (u16,
             },
         ) => {
             let number = ended(&table, passes);
-            made == numbers.0 && number == numbers.1
+            Some((made, number))
         }
-        Err(TableCloseRefused::Memory { table, passes }) => ended(&table, passes) > 64,
-        Ok(_) => false,
+        Err(TableCloseRefused::Memory { table, passes }) => {
+            let _number = ended(&table, passes);
+            None
+        }
+        Ok(_) => None,
     }
 }
 
@@ -167,7 +169,10 @@ fn new_is_blank(alloc: Global) -> bool {
 
 #[test]
 fn a_new_table_is_blank(rt: HostRuntime) {
-    assert!(rt; new_is_blank(rt.alloc()));
+    assert!(rt;
+        new_is_blank(rt.alloc()),
+        "wanted is a closed table of version 0 alone"
+    );
 }
 
 fn new_is_refused_once(alloc: Global) -> bool {
@@ -179,36 +184,41 @@ fn new_is_refused_once(alloc: Global) -> bool {
 
 #[test]
 fn a_pass_too_few_is_refused(rt: HostRuntime) {
-    assert!(rt; new_is_refused_once(rt.alloc()));
+    let is_refused = new_is_refused_once(rt.alloc());
+    assert!(rt;
+        is_refused,
+        "wanted is a refusal with 1 of 2 passes, then a closed table"
+    );
 }
 
-// Both passes are given up, so the table can only be dropped.
-fn none_is_refused(alloc: Global) -> bool {
+// Both passes are given up, so the table can only be dropped. How many were given up comes before
+// the numbers of the refusal.
+fn none_is_refused(alloc: Global) -> (u32, Option<(u16, u32)>) {
     match begun_by_two(alloc) {
         Some((table, passes)) => {
             let number = ended(&table, passes);
-            is_refused(alloc, table, Vec::new(alloc), (2, 0)) && number == 2
+            (number, is_refused(alloc, table, Vec::new(alloc)))
         }
-        None => false,
+        None => (0, None),
     }
 }
 
 #[test]
 fn no_pass_is_refused(rt: HostRuntime) {
-    assert!(rt; none_is_refused(rt.alloc()));
+    assert_eq!(rt; none_is_refused(rt.alloc()), (2, Some((2, 0))));
 }
 
-fn two_outlive(alloc: Global) -> bool {
+fn two_outlive(alloc: Global) -> Option<u32> {
     match begun_by_two(alloc) {
-        Some((table, passes)) => outlive(table, passes) == 2,
-        None => false,
+        Some((table, passes)) => Some(outlive(table, passes)),
+        None => None,
     }
 }
 
 // A table is dropped while its passes are out.
 #[test]
 fn passes_outlive_their_table(rt: HostRuntime) {
-    assert!(rt; two_outlive(rt.alloc()));
+    assert_eq!(rt; two_outlive(rt.alloc()), Some(2));
 }
 
 fn four_close_blank<R: Threads + Wait + Sync>(rt: &R, alloc: Global) -> bool {
@@ -224,5 +234,6 @@ fn four_close_blank<R: Threads + Wait + Sync>(rt: &R, alloc: Global) -> bool {
 // Whatever four threads took and gave back, nothing is left.
 #[test]
 fn four_threads_close_blank(rt: HostRuntime) {
-    assert!(rt; four_close_blank(&rt, rt.alloc()));
+    let is_blank = four_close_blank(&rt, rt.alloc());
+    assert!(rt; is_blank, "wanted is a closed table of version 0 alone");
 }

@@ -188,5 +188,6 @@ fn four_leave_nothing<R: Threads + Wait + Sync>(rt: &R, alloc: Global) -> bool {
 // Four threads at once.
 #[test]
 fn four_threads_make_nodes_and_leave_nothing(rt: HostRuntime) {
-    assert!(rt; four_leave_nothing(&rt, rt.alloc()));
+    let is_blank = four_leave_nothing(&rt, rt.alloc());
+    assert!(rt; is_blank, "wanted is a closed table of version 0 alone");
 }

@@ -116,5 +116,9 @@ fn are_counted<R: Wait>(rt: &R, alloc: Global) -> bool {
 
 #[test]
 fn shares_are_counted(rt: HostRuntime) {
-    assert!(rt; are_counted(&rt, rt.alloc()));
+    let counted = are_counted(&rt, rt.alloc());
+    assert!(rt;
+        counted,
+        "wanted is one name, twice more, and freed by its last share"
+    );
 }

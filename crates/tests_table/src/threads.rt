@@ -128,5 +128,9 @@ fn four_left_nothing<R: Threads + Wait + Sync>(rt: &R, alloc: Global) -> bool {
 // Four threads at once.
 #[test]
 fn four_threads_leave_nothing(rt: HostRuntime) {
-    assert!(rt; four_left_nothing(&rt, rt.alloc()));
+    let is_empty = four_left_nothing(&rt, rt.alloc());
+    assert!(rt;
+        is_empty,
+        "wanted are four leaves, each in slot 0 and freed by its one share"
+    );
 }
