@@ -171,25 +171,39 @@ fn are_roots(roots: &[Root]) -> bool {
     roots.len() == ROOTS.len()
 }
 
-fn is_left(left: &Closed) -> bool {
-    are_records(left.history.records.as_slice())
-        && are_marks(left.history.marks.as_slice())
-        && are_roots(left.roots.as_slice())
-        && left.live == [1, 0, 0, 0, 0, 0, 0, 0, 0, 0, 0]
+// These are left, and one leaf is live.
+fn is_left(left: &Closed) -> Result<(), Fail> {
+    let records = left.history.records.as_slice();
+    let marks = left.history.marks.as_slice();
+    let roots = left.roots.as_slice();
+    let live = left.live;
+    if are_records(records)
+        && are_marks(marks)
+        && are_roots(roots)
+        && live == [1, 0, 0, 0, 0, 0, 0, 0, 0, 0, 0]
+    {
+        return Ok(());
+    }
+    Err(Fail::new(format_args!("{records:?}, {marks:?}, {roots:?}, live {live:?}")))
 }
 
-// Whether that is what a table of side 4 leaves.
-fn leaves_all<R: Wait>(rt: &R, alloc: Global, table: NodeTable, passes: Vec<Pass>) -> bool
+// That is what a table of side 4 leaves.
+fn leaves_all<R: Wait>(
+    rt: &R,
+    alloc: Global,
+    table: NodeTable,
+    passes: Vec<Pass>,
+) -> Result<(), Fail>
     requires { All (IsSpare table) passes.items }
 {
     if table.plan().side().root_level() != 0 {
         let _number = ended(&table, passes);
-        return false;
+        return Err(Fail::new(format_args!("another side")));
     }
     let passes = written(rt, &table, passes);
     match closed(alloc, table, passes) {
         Some(left) => is_left(&left),
-        None => false,
+        None => Err(Fail::new(format_args!("no closed table"))),
     }
 }
 
@@ -198,7 +212,5 @@ fn a_closed_table_leaves_one_history(rt: HostRuntime) -> Result<(), Fail> {
     let side = Side::new(4).ok_or("a side")?;
     let plan = Plan::even(side, 1, 2).ok_or("a plan")?;
     let (table, passes) = begun(rt.alloc(), &plan, 2)?;
-    let left = leaves_all(&rt, rt.alloc(), table, passes);
-    assert!(rt; left);
-    Ok(())
+    leaves_all(&rt, rt.alloc(), table, passes)
 }

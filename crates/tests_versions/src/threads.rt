@@ -134,40 +134,51 @@ fn number_of_names(records: &[Record], roots: &[Root]) -> Option<u32> {
     Some(number)
 }
 
-// Whether the history has 10,000 records, each pass's in its order, and marks; each version has a
-// mark or a root; and one leaf is live where some version is full, and nothing else.
-fn is_whole(closed: &Closed) -> bool {
+// The history has 10,000 records, each pass's in its order, and marks; each version has a mark or a
+// root; and one leaf is live where some version is full, and nothing else.
+fn is_whole(closed: &Closed) -> Result<(), Fail> {
     let records = closed.history.records.as_slice();
     let marks = closed.history.marks.as_slice();
     let roots = closed.roots.as_slice();
     let Some(names) = number_of_names(records, roots) else {
-        return false;
+        return Err(Fail::new(format_args!("a root is another than that of its version's act")));
     };
     let live = if names > 0 { 1 } else { 0 };
-    records.len() == 10_000
-        && are_in_order(records)
-        && have_others(records, marks)
-        && marks.len().saturating_add(roots.len()) == 10_001
+    let in_order = are_in_order(records);
+    let others = have_others(records, marks);
+    let (made, marked, rooted) = (records.len(), marks.len(), roots.len());
+    if made == 10_000
+        && in_order
+        && others
+        && marked.saturating_add(rooted) == 10_001
         && closed.live == [live, 0, 0, 0, 0, 0, 0, 0, 0, 0, 0]
+    {
+        return Ok(());
+    }
+    let lives = closed.live;
+    Err(Fail::new(format_args!(
+        "{made} records, in order: {in_order}; {marked} marks, of others too: {others}; \
+         {rooted} roots, {names} full; live {lives:?}"
+    )))
 }
 
-// Whether that is so of a table of side 4 behind four threads that wrote.
+// That is so of a table of side 4 behind four threads that wrote.
 fn writes_whole<R: Threads + Wait + Sync>(
     rt: &R,
     alloc: Global,
     table: NodeTable,
     passes: Vec<Pass>,
-) -> bool
+) -> Result<(), Fail>
     requires { All (IsSpare table) passes.items }
 {
     if table.plan().side().root_level() != 0 {
         let _number = ended(&table, passes);
-        return false;
+        return Err(Fail::new(format_args!("another side")));
     }
     let passes = all_write(rt, &table, passes);
     match closed(alloc, table, passes) {
         Some(closed) => is_whole(&closed),
-        None => false,
+        None => Err(Fail::new(format_args!("no closed table"))),
     }
 }
 
@@ -176,7 +187,5 @@ fn four_threads_write_one_history(rt: HostRuntime) -> Result<(), Fail> {
     let side = Side::new(4).ok_or("a side")?;
     let plan = Plan::even(side, 1, 4).ok_or("a plan")?;
     let (table, passes) = begun(rt.alloc(), &plan, 4)?;
-    let whole = writes_whole(&rt, rt.alloc(), table, passes);
-    assert!(rt; whole);
-    Ok(())
+    writes_whole(&rt, rt.alloc(), table, passes)
 }

@@ -161,14 +161,28 @@ fn is_answered<R: Wait, L: Ledger>(
     n == 2 && told && second == (2, Shown::Kept(None)) && missing == (2, Shown::Missing)
 }
 
-// Both, by two passes that come back.
+/// Which of the three came as they should.
+#[derive(Clone, Copy, Debug, PartialEq, Eq)]
+struct Came {
+    seen: bool,
+    answered: bool,
+    busy: bool,
+}
+
+const ALL: Came = Came {
+    seen: true,
+    answered: true,
+    busy: true,
+};
+
+// All three, by two passes that come back.
 fn two_write<R: Wait, L: Ledger>(
     rt: &R,
     table: &NodeTable,
     a: &mut Pass,
     b: &mut Pass,
     blank: Blank,
-) -> bool
+) -> Came
     requires name { blank.name ≡ L.name }
     requires parts { blank.parts ≡ L.parts }
     requires some { 0 < L.parts }
@@ -182,36 +196,40 @@ fn two_write<R: Wait, L: Ledger>(
     let seen = is_seen(rt, table, a, b, &mut steps);
     let answered = is_answered(rt, table, a, b, &mut steps);
     let busy = is_busy(rt, table, a, b);
-    seen && answered && busy
+    Came {
+        seen,
+        answered,
+        busy,
+    }
 }
 
-// The same by two passes of a table of side 4, which are ended.
-fn both_write<R: Wait>(rt: &R, table: &NodeTable, mut passes: Vec<Pass>) -> bool
+// The same by two passes of a table of side 4, which are ended, and how many more there were.
+fn both_write<R: Wait>(rt: &R, table: &NodeTable, mut passes: Vec<Pass>) -> Option<(u32, Came)>
     requires passes { All (IsSpare table.now) passes.items }
     requires side { table.now.plan.side ≡ 2 }
 {
     let Some(mut b) = passes.pop() else {
         passes.destroy_empty();
-        return false;
+        return None;
     };
     let Some(mut a) = passes.pop() else {
         b.end();
         passes.destroy_empty();
-        return false;
+        return None;
     };
-    let written = two_write::<R, Brand>(rt, table, &mut a, &mut b, Blank::new(1));
+    let came = two_write::<R, Brand>(rt, table, &mut a, &mut b, Blank::new(1));
     a.end();
     b.end();
-    ended(table, passes) == 0 && written
+    Some((ended(table, passes), came))
 }
 
 // The same of a table of any side.
-fn all_write<R: Wait>(rt: &R, table: &NodeTable, passes: Vec<Pass>) -> bool
+fn all_write<R: Wait>(rt: &R, table: &NodeTable, passes: Vec<Pass>) -> Option<(u32, Came)>
     requires { All (IsSpare table.now) passes.items }
 {
     if table.plan().side().root_level() != 0 {
         let _number = ended(table, passes);
-        return false;
+        return None;
     }
     both_write(rt, table, passes)
 }
@@ -221,7 +239,7 @@ fn two_passes_see_one_history(rt: HostRuntime) -> Result<(), Fail> {
     let side = Side::new(4).ok_or("a side")?;
     let plan = Plan::even(side, 1, 2).ok_or("a plan")?;
     let (table, passes) = begun(rt.alloc(), &plan, 2)?;
-    let told = all_write(&rt, &table, passes);
-    assert!(rt; told);
+    let came = all_write(&rt, &table, passes);
+    assert_eq!(rt; came, Some((0, ALL)));
     Ok(())
 }
