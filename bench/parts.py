@@ -250,18 +250,23 @@ def octree(_: Path) -> list[Path]:
 CALLS = Part("store_run history_model node_words transcript vox_read vw_cell", "", is_proved=False)
 
 
+def over_library(name: str) -> tuple[Path, Path]:
+    """A folder to run in, and the program of C of this name over the proved library."""
+    folder = room("library")
+    made, program = folder / "made", folder / name
+    if not (made / "libvoxdag.a").is_file():
+        command([ROOT / "tools/build-library", made])
+    flags = ["-O2", "-std=c11", "-Wall", "-I", ROOT / "include"]
+    command(["cc", *flags, "-o", program, HERE / f"library/{name}.c", made / "libvoxdag.a"])
+    return folder, program
+
+
 @dataclass(frozen=True)
 class Library:
     """60,000 small fills through C beside the program's time for them, and 1,000,000 gets beside those of the crate."""
 
     def run(self, name: str, rounds: int, is_counted: bool) -> list[str]:
-        folder = room("library")
-        made = folder / "made"
-        if not (made / "libvoxdag.a").is_file():
-            command([ROOT / "tools/build-library", made])
-        calls = folder / "calls"
-        flags = ["-O2", "-std=c11", "-Wall", "-I", ROOT / "include"]
-        command(["cc", *flags, "-o", calls, HERE / "library/calls.c", made / "libvoxdag.a"])
+        folder, calls = over_library("calls")
         command([calls, "fills.txt", "60000", "0"], cwd=folder)
         (folder / "none.txt").write_text("")
         run = [product(), "run", "--side", "256", ROOT / "models/one.vox"]
@@ -284,13 +289,7 @@ class Journal:
     """A journal of 65,535 small fills that a world is opened from: time and memory, beside making the changes."""
 
     def run(self, name: str, rounds: int, is_counted: bool) -> list[str]:
-        folder = room("library")
-        made = folder / "made"
-        if not (made / "libvoxdag.a").is_file():
-            command([ROOT / "tools/build-library", made])
-        program = folder / "journal"
-        flags = ["-O2", "-std=c11", "-Wall", "-I", ROOT / "include"]
-        command(["cc", *flags, "-o", program, HERE / "library/journal.c", made / "libvoxdag.a"])
+        folder, program = over_library("journal")
         found = timed.in_turn(rounds, {
             "made": lambda: timed.timed([program, "journal.txt", "65535"], folder), "opened": lambda: timed.timed([program, "journal.txt"], folder)})
         words = found["opened"].printed.split()
