@@ -14,7 +14,7 @@ use Rattle.history_model.specs.Refusals.{RefusesJournal}
 use Rattle.commands.specs.Audits.{IsJournalOf}
 use Rattle.node_words.specs.declared.shares.Full.{Full}
 use Rattle.commands.specs.declared.refusals.CommandRefused.TheVariants.{Text, Output}
-use Rattle.commands.specs.declared.refusals.OutputRefused.{OutputRefused}
+use Rattle.commands.specs.declared.refusals.NamedOutputRefused.{NamedOutputRefused}
 use Rattle.commands.specs.declared.refusals.TextRefused.{TextRefused}
 use Rattle.commands.specs.declared.refusals.TextRefused.TheVariants.{Vox, StoreFull, Journal, Memory}
 use Rattle.dag_answers.specs.declared.making.HistoryRefused.TheVariants as histories
@@ -107,7 +107,7 @@ dag_written asked texts dag old mid new taken makes same grown whole more = reco
   never_falls = omega (arith, grown, more);
 }
 
-pub dag_stopped : (asked : DagAsked) (texts : List (List ℕ)) (dag : List ℕ) (r : OutputRefused)
+pub dag_stopped : (asked : DagAsked) (texts : List (List ℕ)) (dag : List ℕ) (r : NamedOutputRefused)
     (old mid new : ShelfState) → AreTaken old.files (dag_inputs asked) texts
     → MakesDag (file_in texts) (journal_in texts) dag → mid.files ≡ old.files
     → old.faults ≤ mid.faults → StopsAmong r (dag_output asked dag) mid new

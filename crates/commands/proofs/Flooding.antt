@@ -16,7 +16,7 @@ use Rattle.flood.specs.declared.models.FloodRefused.TheVariants as floods
 use Rattle.flood.specs.Models.{whole_box, has_start, FloodsModel, MayFillStore, RefusesFlood}
 use Rattle.node_words.specs.declared.shares.Full.{Full}
 use Rattle.commands.specs.declared.refusals.CommandRefused.TheVariants.{Text, Output}
-use Rattle.commands.specs.declared.refusals.OutputRefused.{OutputRefused}
+use Rattle.commands.specs.declared.refusals.NamedOutputRefused.{NamedOutputRefused}
 use Rattle.commands.specs.declared.refusals.TextRefused.{TextRefused}
 use Rattle.commands.specs.declared.refusals.TextRefused.TheVariants.{Vox, NoPlace, StoreFull, Memory}
 use Rattle.requests.specs.Orders.{FloodAsked}
@@ -108,7 +108,7 @@ flooded asked texts number file old mid new taken floods same grown whole more =
 }
 
 pub flood_stopped : (asked : FloodAsked) (texts : List (List ℕ)) (number : ℕ) (file : List ℕ)
-    (r : OutputRefused) (old mid new : ShelfState)
+    (r : NamedOutputRefused) (old mid new : ShelfState)
     → AreTaken old.files (vox_input asked.file ∷ []) texts
     → FloodsText asked (file_in texts) number file → mid.files ≡ old.files
     → old.faults ≤ mid.faults → StopsAmong r (region_output asked file) mid new

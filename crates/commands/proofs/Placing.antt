@@ -17,7 +17,7 @@ use Rattle.text_laws.specs.scenes.Building.{BuildsScene}
 use Rattle.text_laws.proofs.OfScenes.Built.{built}
 use Rattle.commands.specs.declared.scene_files.SceneTally.{SceneTally}
 use Rattle.commands.specs.declared.refusals.CommandRefused.TheVariants.{Text, Output}
-use Rattle.commands.specs.declared.refusals.OutputRefused.{OutputRefused}
+use Rattle.commands.specs.declared.refusals.NamedOutputRefused.{NamedOutputRefused}
 use Rattle.commands.specs.declared.refusals.TextRefused.{TextRefused}
 use Rattle.commands.specs.declared.refusals.TextRefused.TheVariants.{Vox, NoScene, Memory}
 use Rattle.requests.specs.Orders.{SceneAsked}
@@ -106,7 +106,7 @@ scene_written asked texts told models script old mid new taken places same grown
     }
 
 pub scene_stopped : (asked : SceneAsked) (texts : List (List ℕ)) (told : SceneTally)
-    (models script : List ℕ) (r : OutputRefused) (old mid new : ShelfState)
+    (models script : List ℕ) (r : NamedOutputRefused) (old mid new : ShelfState)
     → AreTaken old.files (vox_input asked.file ∷ []) texts
     → PlacesText (file_in texts) told models script → mid.files ≡ old.files
     → old.faults ≤ mid.faults → StopsAmong r (scene_outputs asked models script) mid new

@@ -10,8 +10,8 @@ use Rattle.vw_io.specs.declared.shelves.WriteRefused.{WriteRefused}
 use Rattle.vw_io.specs.declared.shelves.WriteRefused.TheVariants as writes
 use Rattle.vw_io.proofs.Written.{none_yet}
 use Rattle.commands.specs.declared.refusals.CommandRefused.TheVariants.{Output}
-use Rattle.commands.specs.declared.refusals.OutputRefused.{OutputRefused}
-use Rattle.commands.specs.declared.refusals.OutputRefused.TheVariants.{Failed, Memory}
+use Rattle.commands.specs.declared.refusals.NamedOutputRefused.{NamedOutputRefused}
+use Rattle.commands.specs.declared.refusals.NamedOutputRefused.TheVariants.{Failed, Memory}
 use Rattle.commands.specs.Meanings.{Meaning}
 use Rattle.commands.specs.Outcomes.{Outcome}
 use Rattle.commands.specs.Putting.{StopsAmong, cause_of, longest_name, write_fault_line}
@@ -78,7 +78,7 @@ at_once outputs s = record {
   );
 }
 
-module _ (r : OutputRefused) where
+module _ (r : NamedOutputRefused) where
   -- the second ones were not all written
   pub among_after : (a b : List Named) (old mid new : ShelfState)
       → AreWritten a old.files mid.files → old.faults ≤ mid.faults → StopsAmong r b mid new

@@ -11,7 +11,7 @@ use Rattle.commands.specs.declared.refusals.TextRefused.{TextRefused}
 use Rattle.commands.specs.declared.refusals.TextRefused.TheVariants.{Memory}
 use Rattle.commands.specs.Meanings.{Meaning}
 use Rattle.commands.specs.Putting.{cause_of, HoldsLine}
-use Rattle.commands.specs.declared.refusals.OutputRefused.{OutputRefused}
+use Rattle.commands.specs.declared.refusals.NamedOutputRefused.{NamedOutputRefused}
 
 -- it came to its end: all inputs were taken, this is what it tells and puts out, all outputs are
 -- whole, and no other file has changed
@@ -33,7 +33,7 @@ pub record BreaksOff (why : WriteRefused) (name : List ℕ) (inputs : List Wante
   pub stops : StopsWith why name outputs old.files new.files old.faults new.faults
 
 -- and the refusal holds the line of that output
-pub record OutputsRefused (r : OutputRefused) (inputs : List WantedInput)
+pub record OutputsRefused (r : NamedOutputRefused) (inputs : List WantedInput)
     (begins : List (List ℕ) → List Named → Type 0) (old new : ShelfState) : Type 0 where
   pub name : List ℕ
   pub holds : HoldsLine r name

@@ -4,8 +4,8 @@ use Rattle.vw_io.specs.Outside.{ShelfState}
 use Rattle.vw_io.specs.Outputs.{Named, AreWritten, StopsWith}
 use Rattle.vw_io.specs.declared.shelves.WriteRefused.{WriteRefused}
 use Rattle.vw_io.specs.declared.shelves.WriteRefused.TheVariants as writes
-use Rattle.commands.specs.declared.refusals.OutputRefused.{OutputRefused}
-use Rattle.commands.specs.declared.refusals.OutputRefused.TheVariants.{Failed, Memory}
+use Rattle.commands.specs.declared.refusals.NamedOutputRefused.{NamedOutputRefused}
+use Rattle.commands.specs.declared.refusals.NamedOutputRefused.TheVariants.{Failed, Memory}
 
 -- the line that tells a fault of the shelf at the output of this name
 abbrev pub write_fault_line : List ℕ → List ℕ
@@ -16,24 +16,24 @@ abbrev pub longest_name : List Named → ℕ
 longest_name [] = 0
 longest_name (output ∷ others) = max (length output.name) (longest_name others)
 
-abbrev pub cause_of : OutputRefused → WriteRefused
+abbrev pub cause_of : NamedOutputRefused → WriteRefused
 cause_of (Failed line) = writes.Failed
 cause_of Memory = writes.Memory
 
 -- a fault's refusal holds the line of the output of this name
-abbrev pub HoldsLine : OutputRefused → List ℕ → Type 0
+abbrev pub HoldsLine : NamedOutputRefused → List ℕ → Type 0
 HoldsLine (Failed line) name = string_bytes line ≡ write_fault_line name
 HoldsLine Memory name = ⊤
 
 -- the outputs up to one of them were written, and that one was not
-pub record StopsAmong (r : OutputRefused) (outputs : List Named) (old new : ShelfState) : Type 0
+pub record StopsAmong (r : NamedOutputRefused) (outputs : List Named) (old new : ShelfState) : Type 0
   where
     pub name : List ℕ
     pub holds : HoldsLine r name
     pub stops : StopsWith (cause_of r) name outputs old.files new.files old.faults new.faults
 
 -- these outputs were written, or some first ones of them
-abbrev pub Writes : {X : Type 0} → Result X OutputRefused → List Named → ShelfState → ShelfState
+abbrev pub Writes : {X : Type 0} → Result X NamedOutputRefused → List Named → ShelfState → ShelfState
     → Type 0
 Writes (Ok x) outputs old new =
     AreWritten outputs old.files new.files × (old.faults ≤ new.faults)

@@ -25,7 +25,9 @@ pub use floods::flood_file;
 pub use inputs::{SCRIPT_LIMIT, VOX_LIMIT};
 pub use looks::look_file;
 pub use puts::put_out;
-pub use refusals::{CommandRefused, NumberedFault, OutputRefused, TextRefused, TranscriptLine};
+pub use refusals::{
+    CommandRefused, NamedOutputRefused, NumberedFault, TextRefused, TranscriptLine,
+};
 pub use scene_files::{SceneTally, scene_file};
 pub use scripts::read_scripts;
 pub use sides::world_kept;

@@ -2,7 +2,7 @@
 ghost use Rattle.std.specs.Prelude.{◌≡◌, ◌≤◌, ◌<◌, ◌^◌, [], length, string_bytes, string_capacity};
 ghost use Rattle.commands.specs.Putting.{Writes, longest_name, write_fault_line};
 
-use crate::refusals::OutputRefused;
+use crate::refusals::NamedOutputRefused;
 use std::alloc::Global;
 use vw_io::{Output, Shelf, WriteRefused, write_all};
 
@@ -16,18 +16,18 @@ pub fn put_out<S: Shelf>(
     alloc: Global,
     outputs: &[Output<'_, '_>],
     shelf: &mut S,
-) -> Result<(), OutputRefused>
+) -> Result<(), NamedOutputRefused>
     ensures writes { Writes result outputs.now (S.state shelf.old) (S.state shelf.new) }
 {
     let longest = longest_name(outputs);
     let Ok(room) = String::with_capacity(alloc, longest + FAULT_WORDS) else {
-        return Err(OutputRefused::Memory);
+        return Err(NamedOutputRefused::Memory);
     };
     match write_all(outputs, shelf) {
         Ok(()) => Ok(()),
         Err(refused) => match refused.why {
-            WriteRefused::Failed => Err(OutputRefused::Failed(fault_line(refused.name, room))),
-            WriteRefused::Memory => Err(OutputRefused::Memory),
+            WriteRefused::Failed => Err(NamedOutputRefused::Failed(fault_line(refused.name, room))),
+            WriteRefused::Memory => Err(NamedOutputRefused::Memory),
         },
     }
 }

@@ -17,12 +17,12 @@ pub enum CommandRefused<'w> {
     /// The inputs were taken, and their texts are refused.
     Text(TextRefused),
     /// An output was not written.
-    Output(OutputRefused),
+    Output(NamedOutputRefused),
 }
 
-/// Why an output was not written.
+/// Why an output was not written, in a line that names it.
 #[derive(Drop)]
-pub enum OutputRefused {
+pub enum NamedOutputRefused {
     /// The shelf failed at it. This is the line that tells so.
     Failed(String),
     /// Want of memory, at its write or before it.

@@ -19,7 +19,7 @@ pub use laws::{
     sessions_agree_beside_others, shown_records_are_accepted_once,
 };
 pub use possible::contents_have_buckets;
-pub use runs::{Ran, Transcript};
+pub use runs::Transcript;
 pub use saves::SavedBox;
 pub use scripts::{arms_take_lines, plain_edits_want_their_parts};
 pub use sessions::{

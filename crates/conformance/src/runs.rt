@@ -1,4 +1,3 @@
-use history_model::History;
 use transcript::LineAnswer;
 
 /// The answers to a script's commands, in order. Contracts see the list.
@@ -14,13 +13,4 @@ impl std::marker::Model for Transcript {
     ghost Value = { List LineAnswer };
 
     ghost view = { λ t. t.lines.items };
-}
-
-/// What a run of scripts gives: the history of all sessions, and a transcript for each script.
-///
-/// What they are to each other says `AllRan` in `specs/Runs.antt`, whatever runs the scripts.
-#[derive(Drop)]
-pub struct Ran {
-    pub history: History,
-    pub transcripts: Vec<Transcript>,
 }

@@ -15,12 +15,11 @@ use Rattle.node_words.specs.declared.keys.Key.{Key}
 use Rattle.node_words.specs.declared.keys.Key.TheVariants.{Node}
 use Rattle.node_words.specs.declared.shares.Full.{Full}
 use Rattle.node_words.specs.Gathering.{LosesAll}
-use Rattle.node_words.specs.Held.{AreBelow, AreHeld, Gains, HasChild, IsReached, IsSought, Wanted, name_in}
+use Rattle.node_words.specs.Held.{AreBelow, AreHeld, Gains, HasChild, IsReached, IsSought, Wanted, name_in, most_before_freeing}
 use Rattle.node_words.specs.Keys.{ChildFits, bucket_of_key, of_node}
 use Rattle.node_words.specs.Plans.{IsPlan, Layout, buckets_at}
 use Rattle.node_words.proofs.HeldLaws.{child_level, children_canonical, gains_held, gains_keeps, held_reached, reached_child, reached_levels, reached_more, row_held}
 use Rattle.node_words.proofs.KeyLaws.{key_bucket}
-use Rattle.table_rule.specs.ViewFacts.{most_before_freeing}
 use Rattle.core_laws.specs.places.KeyWords.{key_word}
 use Rattle.core_laws.specs.places.Names.{IsName, named}
 use Rattle.core_laws.specs.places.WordIds.{WordId, key_words}

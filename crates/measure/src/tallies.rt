@@ -52,8 +52,7 @@ pub trait Subject: Copy {
         ensures { result < 2 ^ 32 };
 
     /// Whether it is worth to ask first if no cell of the whole block counts. No tally depends on
-    /// it;
-    /// `passes_none` misses less where it is true.
+    /// it; `passes_none` misses less where it is true.
     fn is_even(&self) -> bool;
 
     /// Whether the number of a block of eight leaves is worth to be remembered. No answer depends

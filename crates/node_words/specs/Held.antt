@@ -22,6 +22,20 @@ pub record IsSought (p : Layout) (w : Wanted) : Type 0 where
   pub bucket_is : w.bucket ≡ bucket_of_shape p.buckets w.level w.shape
   pub bucket_in : w.bucket < buckets_at p w.level
 
+-- of 4,096 shares, the most that a seat holds, so many leave room for an entry to be freed: its own
+-- share goes, and those of its eight children come
+abbrev pub most_before_freeing : ℕ
+most_before_freeing = 4089
+
+-- so many leave room for a tree to go as a whole: eight shares at each of eleven levels
+abbrev pub most_before_release : ℕ
+most_before_release = 4008
+
+-- so many leave room for a session's call: what it takes for itself, at most 108 shares, and then
+-- for a tree to go as a whole
+abbrev pub most_before_call : ℕ
+most_before_call = 3900
+
 -- what a store is seen as: its plan, which no call changes, the trees of the shares held, the
 -- shapes of the entries added, and what met a full bucket
 pub record StoreState : Type 0 where

@@ -3,7 +3,7 @@ ghost use Rattle.node_words.specs.shapes.Shape.{Leaf, branch_of};
 ghost use Rattle.node_words.specs.shapes.Tree.{LeafAt, root_of, bits_in, child_of, shape_of, node_at};
 ghost use Rattle.node_words.specs.shapes.Weights.{number_of_trees};
 ghost use Rattle.node_words.specs.declared.shapes.names.Name.{Name};
-ghost use Rattle.node_words.specs.Held.{StoreState, IsReached, HoldsName, ReachesName, ForHeld, ForReached, Gains, HoldsChildren, ForChildren, HasChild, AreBelow, Joins, OnlyHeldChanges, OnlyMeets, Grants, AreTrees, AreCanonical, ReturnsWithin};
+ghost use Rattle.node_words.specs.Held.{StoreState, IsReached, HoldsName, ReachesName, ForHeld, ForReached, Gains, HoldsChildren, ForChildren, HasChild, AreBelow, Joins, OnlyHeldChanges, OnlyMeets, Grants, AreTrees, AreCanonical, ReturnsWithin, most_before_release};
 
 use crate::shapes::Name;
 use crate::shares::{Full, NodeRefused, Share};
@@ -139,7 +139,7 @@ pub trait NodeStore: Blocks {
     /// way.
     fn back<L: Ledger>(&mut self, share: Share, steps: &mut Steps<L>)
         requires held { HoldsName (Self.seen self.old).held share }
-        requires room { number_of_trees (Self.seen self.old).held ≤ 4008 }
+        requires room { number_of_trees (Self.seen self.old).held ≤ most_before_release }
         ensures held { ForHeld (Self.seen self.old).held share
             (λ t. Gains (Self.seen self.new).held t (Self.seen self.old).held) }
         ensures only { OnlyHeldChanges (Self.seen self.old) (Self.seen self.new) }

@@ -39,7 +39,7 @@ impl NodeStore for OneStore {
     ghost use Rattle.node_words.specs.Held.{IsReached, ForHeld, Gains, ForChildren, Joins, OnlyHeldChanges};
     ghost use Rattle.node_words.specs.shapes.Weights.{number_of_trees};
     ghost use Rattle.node_words.specs.Held.{HasChild, AreBelow, HoldsChildren, HoldsName};
-    ghost use Rattle.node_words.specs.Held.{OnlyMeets, Grants, ReturnsWithin};
+    ghost use Rattle.node_words.specs.Held.{OnlyMeets, Grants, ReturnsWithin, most_before_release};
     ghost use Rattle.core_laws.specs.Events.{IsMissing};
     ghost use Rattle.one_store.specs.entries.Words.{HasEntry};
     ghost use Rattle.one_store.specs.Known.{core_of, known_state};
@@ -159,7 +159,7 @@ impl NodeStore for OneStore {
 
     fn back<L: Ledger>(&mut self, share: Share, steps: &mut Steps<L>)
         requires held { HoldsName (known_state self.old).held share }
-        requires room { number_of_trees (known_state self.old).held ≤ 4008 }
+        requires room { number_of_trees (known_state self.old).held ≤ most_before_release }
         ensures held { ForHeld (known_state self.old).held share
             (λ t. Gains (known_state self.new).held t (known_state self.old).held) }
         ensures only { OnlyHeldChanges (known_state self.old) (known_state self.new) }

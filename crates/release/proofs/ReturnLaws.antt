@@ -8,10 +8,9 @@ use Rattle.node_words.specs.shapes.Weights.{weigh, weight_below, number_of_trees
 use Rattle.node_words.proofs.OfShapes.TreeLaws.{shape_of-child}
 use Rattle.node_words.proofs.OfShapes.WeightLaws.{weight_of-there, weight_of-gone, weight_below-one}
 use Rattle.node_words.specs.Gathering.{Loses, LosesAll, MayHold}
-use Rattle.node_words.specs.Held.{AreBelow, AreHeld, Gains, HoldsName, IsHeld, IsUnheldBranch, ReturnsWithin, name_in}
+use Rattle.node_words.specs.Held.{AreBelow, AreHeld, Gains, HoldsName, IsHeld, IsUnheldBranch, ReturnsWithin, name_in, most_before_freeing}
 use Rattle.node_words.proofs.GatherLaws.{may_next}
 use Rattle.node_words.proofs.HeldLaws.{child_level, held_reached, reached_levels}
-use Rattle.table_rule.specs.ViewFacts.{most_before_freeing}
 use Rattle.node_table.specs.ViewFacts.{ViewFacts}
 use Rattle.node_table.specs.Views.{SeatView}
 use Rattle.node_table.proofs.OnlyShares.{only_held, only_itself, only_on}

@@ -21,7 +21,7 @@ ghost use Rattle.node_words.specs.Held.{
   ReachesName,
   ReturnsWithin,
 };
-ghost use Rattle.table_rule.specs.ViewFacts.{most_before_freeing, most_before_release};
+ghost use Rattle.node_words.specs.Held.{most_before_freeing, most_before_release};
 ghost use Rattle.node_table.specs.Acts.{OnlySharesChange};
 ghost use Rattle.node_table.specs.TableStates.{BelongsTo};
 ghost use Rattle.release.specs.Returns.{GaveBack, GaveRowBack};

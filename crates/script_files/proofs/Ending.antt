@@ -35,8 +35,8 @@ use Rattle.world_run.specs.declared.runs.ScriptsRun.{ScriptsRun}
 use Rattle.world_run.specs.declared.endings.WorldRan.{WorldRan}
 use Rattle.script_files.specs.declared.tallies.Tally.{Tally}
 use Rattle.commands.specs.declared.refusals.CommandRefused.TheVariants.{Text, Output}
-use Rattle.commands.specs.declared.refusals.OutputRefused.{OutputRefused}
-use Rattle.commands.specs.declared.refusals.OutputRefused.TheVariants.{Memory}
+use Rattle.commands.specs.declared.refusals.NamedOutputRefused.{NamedOutputRefused}
+use Rattle.commands.specs.declared.refusals.NamedOutputRefused.TheVariants.{Memory}
 use Rattle.commands.specs.declared.refusals.TextRefused.{TextRefused}
 use Rattle.script_files.specs.declared.scripts.Read.{Read}
 use Rattle.requests.specs.Orders.{Asked}
@@ -84,7 +84,7 @@ pub not_closed : (asked : Asked) (r : RunState) (state : ShelfState)
     → HadHistory r.tint r.plan r.models r.sessions → WritesHistory asked r (Err Memory) state state
 not_closed asked r state had = inl (record { had = had; stops = at_once [] state })
 
-pub closed_writes : (asked : Asked) (r : RunState) (result : Result RunWritten OutputRefused)
+pub closed_writes : (asked : Asked) (r : RunState) (result : Result RunWritten NamedOutputRefused)
     (old new : ShelfState) → WritesClosed asked r result old new
     → WritesHistory asked r result old new
 closed_writes asked r (Ok w) old new writes = writes
@@ -135,7 +135,7 @@ history_written asked r closed written outputs tally old new closes are is told 
     }
 
 pub history_stopped : (asked : Asked) (r : RunState) (closed : Closed) (written : HistoryTexts)
-    (outputs : List Named) (refused : OutputRefused) (old new : ShelfState) → ClosesRun r closed
+    (outputs : List Named) (refused : NamedOutputRefused) (old new : ShelfState) → ClosesRun r closed
     → AreTexts asked r.models closed.history written → outputs ≡ outputs_last asked written
     → StopsAmong refused outputs old new → StopsClosed asked r refused old new
 history_stopped asked r closed written outputs refused old new closes are is stops = record {
@@ -164,7 +164,7 @@ module _ (asked : Asked) (run : ScriptsRun) (old : ShelfState) where
 
   -- some first ones of these
   began_first : HadHistory run.run.tint run.run.plan run.run.models run.run.sessions
-      → (r : OutputRefused) (new : ShelfState)
+      → (r : NamedOutputRefused) (new : ShelfState)
       → StopsAmong r (written_first asked given) old new → StopsRun asked run r old new
   began_first had r new stops = record {
     outputs = written_first asked given;
@@ -183,7 +183,7 @@ module _ (asked : Asked) (run : ScriptsRun) (old : ShelfState) where
   }
 
   pub stops_in_texts : HadHistory run.run.tint run.run.plan run.run.models run.run.sessions
-      → (r : OutputRefused) (new : ShelfState)
+      → (r : NamedOutputRefused) (new : ShelfState)
       → StopsAmong r texts_named old new → StopsRun asked run r old new
   stops_in_texts had r new stops =
       began_first had r new (among_before r texts_named files_saved old new stops)
@@ -191,7 +191,7 @@ module _ (asked : Asked) (run : ScriptsRun) (old : ShelfState) where
   module _ (mid : ShelfState) (texts_whole : AreWritten texts_named old.files mid.files)
       (texts_calm : old.faults ≤ mid.faults) where
     pub stops_in_files : HadHistory run.run.tint run.run.plan run.run.models run.run.sessions
-        → (r : OutputRefused) (new : ShelfState)
+        → (r : NamedOutputRefused) (new : ShelfState)
         → StopsAmong r files_saved mid new → StopsRun asked run r old new
     stops_in_files had r new stops =
         began_first had r new
@@ -204,7 +204,7 @@ module _ (asked : Asked) (run : ScriptsRun) (old : ShelfState) where
           both_written texts_named files_saved old.files mid.files late.files texts_whole
           files_whole
 
-      stops_in_closing : (r : OutputRefused) (new : ShelfState)
+      stops_in_closing : (r : NamedOutputRefused) (new : ShelfState)
           → StopsOpen run.run r late new
           → StopsRun asked run r old new
       stops_in_closing r new h =
@@ -214,7 +214,7 @@ module _ (asked : Asked) (run : ScriptsRun) (old : ShelfState) where
           (among_after r (written_first asked given) [] old late new first_whole
           (omega (arith, texts_calm, files_calm)) h.stops))
 
-      stops_in_history : (r : OutputRefused) (new : ShelfState)
+      stops_in_history : (r : NamedOutputRefused) (new : ShelfState)
           → StopsClosed asked run.run r late new → StopsRun asked run r old new
       stops_in_history r new h = record {
         outputs = written_first asked given ++ h.outputs;
@@ -250,7 +250,7 @@ module _ (asked : Asked) (run : ScriptsRun) (old : ShelfState) where
             (let more = h.never_falls in omega (arith, texts_calm, files_calm, more));
       }
 
-      pub run_writes : (result : Result RunWritten OutputRefused) (new : ShelfState)
+      pub run_writes : (result : Result RunWritten NamedOutputRefused) (new : ShelfState)
           → WritesHistory asked run.run result late new → WritesRun asked run result old new
       run_writes (Ok w) new h = all_written w.tally w.ended new h
       run_writes (Err r) new (inl h) = stops_in_closing r new h
@@ -447,7 +447,7 @@ module _ (asked : Asked) (texts : List (List ℕ)) (r : Read) (run : ScriptsRun)
         b.log b.closes outputs b.begins;
   }
 
-  pub run_stopped : (refused : OutputRefused) → StopsRun asked run refused mid new
+  pub run_stopped : (refused : NamedOutputRefused) → StopsRun asked run refused mid new
       → Outcome (run_means asked) (Err (Output refused)) old new
   run_stopped refused stopped =
       broken_off refused (run_means asked) texts stopped.outputs old mid new taken

@@ -27,7 +27,7 @@ use Rattle.conformance.specs.sessions.Ran.{ClosesWorld, SessionsRan}
 use Rattle.vw_io.specs.Outputs.{Named}
 use Rattle.world_run.specs.declared.runs.ScriptsRun.{ScriptsRun}
 use Rattle.script_files.specs.declared.tallies.Tally.{Tally}
-use Rattle.commands.specs.declared.refusals.OutputRefused.{OutputRefused}
+use Rattle.commands.specs.declared.refusals.NamedOutputRefused.{NamedOutputRefused}
 use Rattle.script_files.specs.declared.scripts.Read.{Read}
 use Rattle.script_files.specs.Requests.{texts_written}
 use Rattle.requests.specs.ScriptNames.{demo_plan, demo_asked}
@@ -189,7 +189,7 @@ module _ (n : ℕ) (r : Read) (run : ScriptsRun) (old new : ShelfState) (counted
         tint_is load_models kept fits_load b.log b.closes outputs b.begins;
   }
 
-  pub demo_stopped : (refused : OutputRefused) → StopsRun demo_asked run refused old new
+  pub demo_stopped : (refused : NamedOutputRefused) → StopsRun demo_asked run refused old new
       → Outcome (demo_means n) (Err (Output refused)) old new
   demo_stopped refused s =
       broken_off refused (demo_means n) [] s.outputs old old new tt

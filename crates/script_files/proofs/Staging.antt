@@ -6,7 +6,7 @@ use Rattle.std.proofs.lemmas.List.{take-append-drop, take-take, drop-take, take_
 use Rattle.vw_io.specs.Outside.{ShelfState}
 use Rattle.vw_io.specs.Outputs.{Named, AreWritten}
 use Rattle.vw_io.proofs.Written.{none_yet}
-use Rattle.commands.specs.declared.refusals.OutputRefused.{OutputRefused}
+use Rattle.commands.specs.declared.refusals.NamedOutputRefused.{NamedOutputRefused}
 use Rattle.commands.specs.Putting.{StopsAmong, Writes}
 use Rattle.commands.proofs.Putting.{among_after, among_before}
 use Rattle.commands.proofs.Writing.{both_written}
@@ -36,7 +36,7 @@ next_output outputs k x old mid new so_far writes = record {
       (let first = so_far.never_falls in let more = writes.1 in omega (arith, first, more));
 }
 
-pub next_stops : (r : OutputRefused) (outputs : List Named) (k : ℕ) (old mid new : ShelfState)
+pub next_stops : (r : NamedOutputRefused) (outputs : List Named) (k : ℕ) (old mid new : ShelfState)
     → IsWrittenTo outputs k old mid → StopsAmong r (take 1 (drop k outputs)) mid new
     → StopsAmong r outputs old new
 next_stops r outputs k old mid new so_far s =
@@ -66,7 +66,7 @@ one_output f (y ∷ xs) (suc k) x is = one_output f xs k x is
 
 -- what was put out under a name is that of this number
 pub output_put : {X : Type 0} (f : X → Named) (xs : List X) (k : ℕ) (x : X) (name bytes : List ℕ)
-    (result : Result (Unit {0}) OutputRefused) (old new : ShelfState) → slice_get xs k ≡ Some x
+    (result : Result (Unit {0}) NamedOutputRefused) (old new : ShelfState) → slice_get xs k ≡ Some x
     → name ≡ (f x).name → bytes ≡ (f x).bytes
     → Writes result (record { name = name; bytes = bytes } ∷ []) old new
     → Writes result (take 1 (drop k (map f xs))) old new

@@ -20,7 +20,7 @@ use Rattle.script_files.specs.declared.tallies.RunWritten.{RunWritten}
 use Rattle.script_files.specs.declared.tallies.Tally.{Tally}
 use Rattle.requests.specs.Orders.{Asked}
 use Rattle.commands.specs.Scripts.{lines_asked, scripts_of}
-use Rattle.commands.specs.declared.refusals.OutputRefused.{OutputRefused}
+use Rattle.commands.specs.declared.refusals.NamedOutputRefused.{NamedOutputRefused}
 use Rattle.script_files.specs.declared.scripts.Read.{Read}
 use Rattle.commands.specs.Meanings.{file_in, scripts_in}
 use Rattle.script_files.specs.Runs.{AreApart, TalliesRun}
@@ -85,7 +85,7 @@ pub record WroteHistory (asked : Asked) (r : RunState) (tally : Tally) (closed :
 
 -- or it was closed, and some first ones of these were written, of which the report may not have
 -- been made
-pub record StopsClosed (asked : Asked) (r : RunState) (refused : OutputRefused)
+pub record StopsClosed (asked : Asked) (r : RunState) (refused : NamedOutputRefused)
     (old new : ShelfState) : Type 0 where
   pub closed : Closed
   pub closes : ClosesRun r closed
@@ -102,17 +102,17 @@ pub record TellsClosedRun (r : RunState) (w : WorldRan) : Type 0 where
   pub report : TellsReport r.models w.ended
   pub numbers : AreNumbers r.models w.ended.history w.numbers.items
 
-abbrev pub WritesClosed : Asked → RunState → Result RunWritten OutputRefused → ShelfState
+abbrev pub WritesClosed : Asked → RunState → Result RunWritten NamedOutputRefused → ShelfState
     → ShelfState → Type 0
 WritesClosed asked r (Ok w) old new = WroteHistory asked r w.tally w.ended old new
 WritesClosed asked r (Err refused) old new = StopsClosed asked r refused old new
 
 -- or it wasn't closed, its sessions had one history, and nothing was written
-pub record StopsOpen (r : RunState) (refused : OutputRefused) (old new : ShelfState) : Type 0 where
+pub record StopsOpen (r : RunState) (refused : NamedOutputRefused) (old new : ShelfState) : Type 0 where
   pub had : HadHistory r.tint r.plan r.models r.sessions
   pub stops : StopsAmong refused [] old new
 
-abbrev pub WritesHistory : Asked → RunState → Result RunWritten OutputRefused → ShelfState
+abbrev pub WritesHistory : Asked → RunState → Result RunWritten NamedOutputRefused → ShelfState
     → ShelfState → Type 0
 WritesHistory asked r (Ok w) old new = WroteHistory asked r w.tally w.ended old new
 WritesHistory asked r (Err refused) old new =
@@ -136,13 +136,13 @@ pub record BeginsRun (asked : Asked) (r : ScriptsRun) (outputs : List Named) : T
   pub begins : BeginsTexts asked (given_of r) log outputs
 
 -- some first ones were written
-pub record StopsRun (asked : Asked) (r : ScriptsRun) (refused : OutputRefused)
+pub record StopsRun (asked : Asked) (r : ScriptsRun) (refused : NamedOutputRefused)
     (old new : ShelfState) : Type 0 where
   pub outputs : List Named
   pub begins : BeginsRun asked r outputs
   pub stops : StopsAmong refused outputs old new
 
-abbrev pub WritesRun : Asked → ScriptsRun → Result RunWritten OutputRefused → ShelfState
+abbrev pub WritesRun : Asked → ScriptsRun → Result RunWritten NamedOutputRefused → ShelfState
     → ShelfState → Type 0
 WritesRun asked r (Ok w) old new = WroteRun asked r w.tally w.ended old new
 WritesRun asked r (Err refused) old new = StopsRun asked r refused old new

@@ -10,7 +10,7 @@ ghost use Rattle.script_files.specs.Stages.{TellsClosedRun, WritesClosed, Writes
 
 use crate::tallies::RunWritten;
 use crate::texts::{Lines, Texts, history_texts, transcript_texts};
-use commands::{OutputRefused, put_out};
+use commands::{NamedOutputRefused, put_out};
 use conformance::Transcript;
 use requests::Order;
 use std::alloc::Global;
@@ -29,7 +29,7 @@ pub(crate) fn write_run<S: Shelf, R: Wait>(
     names: &[String],
     run: ScriptsRun,
     shelf: &mut S,
-) -> Result<RunWritten, OutputRefused>
+) -> Result<RunWritten, NamedOutputRefused>
     requires named { map string_bytes names.now ≡ map transcript_name order.now.scripts }
     ensures writes { WritesRun order.now run result (S.state shelf.old)
         (S.state shelf.new) }
@@ -54,18 +54,18 @@ fn write_transcripts<S: Shelf>(
     names: &[String],
     transcripts: Vec<Transcript>,
     shelf: &mut S,
-) -> Result<(), OutputRefused>
+) -> Result<(), NamedOutputRefused>
     ensures writes { Writes result
         (named_texts (map string_bytes names.now) (map transcript_of transcripts.items))
         (S.state shelf.old) (S.state shelf.new) }
 {
     let Ok(texts) = transcript_texts(alloc, transcripts.as_slice()) else {
-        return Err(OutputRefused::Memory);
+        return Err(NamedOutputRefused::Memory);
     };
     drop(transcripts);
     let mut outputs = Vec::new(alloc);
     if let Err(_) = add_transcripts(names, texts.as_slice(), &mut outputs) {
-        return Err(OutputRefused::Memory);
+        return Err(NamedOutputRefused::Memory);
     }
     put_out(alloc, outputs.as_slice(), shelf)
 }
@@ -75,7 +75,7 @@ fn write_saves<S: Shelf>(
     alloc: Global,
     run: &mut OpenRun,
     shelf: &mut S,
-) -> Result<(), OutputRefused>
+) -> Result<(), NamedOutputRefused>
     ensures writes { Writes result
         (map (saved_output (file_of_save run.old.tint run.old.models)) run.old.kept)
         (S.state shelf.old) (S.state shelf.new) }
@@ -96,7 +96,7 @@ fn write_save<S: Shelf>(
     run: &mut OpenRun,
     k: usize,
     shelf: &mut S,
-) -> Result<(), OutputRefused>
+) -> Result<(), NamedOutputRefused>
     requires { k < length run.old.kept }
     ensures writes { Writes result
         (take 1 (drop k
@@ -106,7 +106,7 @@ fn write_save<S: Shelf>(
 {
     let save = run.save(k);
     let Ok(file) = run.file(alloc, k) else {
-        return Err(OutputRefused::Memory);
+        return Err(NamedOutputRefused::Memory);
     };
     let outputs = [Output {
         name: save.name.as_str(),
@@ -122,12 +122,12 @@ fn write_history<S: Shelf, R: Wait>(
     order: &Order<'_>,
     run: OpenRun,
     shelf: &mut S,
-) -> Result<RunWritten, OutputRefused>
+) -> Result<RunWritten, NamedOutputRefused>
     ensures writes { WritesHistory order.now run result (S.state shelf.old)
         (S.state shelf.new) }
 {
     let Ok(ran) = run.close(rt, alloc) else {
-        return Err(OutputRefused::Memory);
+        return Err(NamedOutputRefused::Memory);
     };
     write_closed(alloc, order, ran, shelf)
 }
@@ -138,16 +138,16 @@ fn write_closed<S: Shelf>(
     order: &Order<'_>,
     ran: WorldRan,
     shelf: &mut S,
-) -> Result<RunWritten, OutputRefused>
+) -> Result<RunWritten, NamedOutputRefused>
     requires levels { length ran.numbers.items ≤ 11 }
     ensures writes { (r : RunState) → TellsClosedRun r ran → WritesClosed order.now r result
         (S.state shelf.old) (S.state shelf.new) }
 {
     let Ok(texts) = history_texts(alloc, order, &ran) else {
-        return Err(OutputRefused::Memory);
+        return Err(NamedOutputRefused::Memory);
     };
     let Ok(outputs) = last_outputs(alloc, order, &texts) else {
-        return Err(OutputRefused::Memory);
+        return Err(NamedOutputRefused::Memory);
     };
     match put_out(alloc, outputs.as_slice(), shelf) {
         Ok(()) => {

@@ -4,7 +4,7 @@ use Rattle.std.specs.Borrow.{MutBor}
 use Rattle.std.specs.Prelude.{◌≡◌, ℕ, ◌+◌, ◌≤◌, List, [], ◌∷◌, drop, length, take}
 use Rattle.std.specs.declared.vec.Vec.{Vec}
 use Rattle.std.proofs.Common.{refl, subst, ◌∙◌}
-use Rattle.table_rule.specs.ViewFacts.{most_before_call}
+use Rattle.node_words.specs.Held.{most_before_call}
 use Rattle.node_table.specs.TableStates.{TableState, PassState, SamePass}
 use Rattle.version_log.specs.declared.answers.Pinned.{Pinned}
 use Rattle.session.specs.Resting.{IsAtRest}

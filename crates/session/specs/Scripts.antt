@@ -3,7 +3,7 @@ use Rattle.std.specs.Prelude.{◌≡◌, ◌≤◌, List, []}
 use Rattle.script.specs.declared.commands.ScriptLine.{ScriptLine}
 use Rattle.script.specs.Fitting.{RisesFrom}
 use Rattle.table_rule.specs.Views.{SeatView}
-use Rattle.table_rule.specs.ViewFacts.{most_before_call}
+use Rattle.node_words.specs.Held.{most_before_call}
 use Rattle.conformance.specs.sessions.Saves.{saves_asked_in}
 use Rattle.session.specs.SessionWorlds.{AreLinesOfWorld, SessionWorld}
 

@@ -1,6 +1,6 @@
 //! Changes of a world: edits, undos and redos, and one attempt at an edit.
 ghost use Rattle.std.specs.Prelude.{◌≡◌, ◌∷◌, [], ℕ};
-ghost use Rattle.table_rule.specs.ViewFacts.{most_before_call};
+ghost use Rattle.node_words.specs.Held.{most_before_call};
 ghost use Rattle.act_rebuilds.specs.Balls.{ball_act};
 ghost use Rattle.act_rebuilds.specs.Boxes.{box_act};
 ghost use Rattle.history_model.specs.declared.acts.Act.TheVariants.{Copy};

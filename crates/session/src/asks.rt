@@ -1,7 +1,7 @@
 //! What is asked of a version.
 ghost use Rattle.std.specs.Prelude.{◌≡◌, ◌^◌, true, ℕ, option_copied};
 ghost use Rattle.node_words.specs.descent.Roots.{HoldsRoot};
-ghost use Rattle.table_rule.specs.ViewFacts.{most_before_call};
+ghost use Rattle.node_words.specs.Held.{most_before_call};
 ghost use Rattle.session.specs.Lendable.{IsLendable};
 ghost use Rattle.script.specs.Fitting.{QuestionFits};
 ghost use Rattle.conformance.specs.Kinds.{is_resting};

@@ -1,6 +1,6 @@
 // Attempts at an edit: each makes its root of the newest version that the session has seen.
 ghost use Rattle.std.specs.Prelude.{◌+◌, OnErr, OnOk, option_copied};
-ghost use Rattle.table_rule.specs.ViewFacts.{most_before_call};
+ghost use Rattle.node_words.specs.Held.{most_before_call};
 ghost use Rattle.session.specs.Lendable.{IsLendable, StaysLendable};
 ghost use Rattle.version_log.specs.Coming.{CommitCame};
 ghost use Rattle.session.specs.Attempts.{Attempts, HasPinnedHead, HoldsHead, MakesNext};

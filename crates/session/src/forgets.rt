@@ -2,9 +2,8 @@
 ghost use Rattle.std.specs.Prelude.{◌≡◌, ◌≤◌, ◌∷◌, [], ℕ};
 ghost use Rattle.node_words.specs.shapes.Weights.{number_of_trees};
 ghost use Rattle.edit_walk.specs.blocks.Blocks.{ReturnsShare, MayGoBack};
-ghost use Rattle.node_words.specs.Held.{OnlyHeldChanges};
+ghost use Rattle.node_words.specs.Held.{OnlyHeldChanges, most_before_call, most_before_release};
 ghost use Rattle.table_rule.specs.Views.{seen_of};
-ghost use Rattle.table_rule.specs.ViewFacts.{most_before_call, most_before_release};
 ghost use Rattle.session.specs.Lendable.{IsLendable, StaysLendable};
 ghost use Rattle.conformance.specs.sessions.CallSpecs.{ForgetSpec};
 ghost use Rattle.session.specs.Resting.{Calls, IsBlankOf, IsReady};

@@ -1,7 +1,7 @@
 //! Versions that are pinned, and what goes back.
 ghost use Rattle.std.specs.Prelude.{◌≡◌, ◌+◌};
 ghost use Rattle.edit_walk.specs.blocks.Blocks.{ReturnsShare, MayGoBack};
-ghost use Rattle.table_rule.specs.ViewFacts.{most_before_call, most_before_release};
+ghost use Rattle.node_words.specs.Held.{most_before_call, most_before_release};
 ghost use Rattle.version_log.specs.Pins.{IsPinned};
 ghost use Rattle.version_log.specs.Roots.{GetsRoot};
 ghost use Rattle.version_log.specs.Seeing.{OnlyReadsLog};

@@ -5,7 +5,7 @@ ghost use Rattle.vw_cell.specs.Counts.{number_in};
 ghost use Rattle.vw_cell.specs.Places.{FitsAt};
 ghost use Rattle.history_model.specs.Stores.{store_has};
 ghost use Rattle.table_rule.specs.LogFacts.{seen_has};
-ghost use Rattle.table_rule.specs.ViewFacts.{most_before_call};
+ghost use Rattle.node_words.specs.Held.{most_before_call};
 ghost use Rattle.session.specs.Lendable.{IsLendable};
 ghost use Rattle.version_log.specs.declared.answers.Pinned.{Pinned};
 ghost use Rattle.version_log.specs.Pins.{IsPinned};

@@ -1,6 +1,6 @@
 // An edit under the log's turn, while no other session commits.
 ghost use Rattle.std.specs.Prelude.{◌+◌, option_copied};
-ghost use Rattle.table_rule.specs.ViewFacts.{most_before_call};
+ghost use Rattle.node_words.specs.Held.{most_before_call};
 ghost use Rattle.session.specs.Attempts.{AnswersAct, HoldsHead, MayBeMade, act_answer};
 ghost use Rattle.session.specs.Resting.{Calls, HasLog, IsReady};
 

@@ -2,7 +2,7 @@
 ghost use Rattle.std.specs.Prelude.{◌≡◌, ◌≤◌, false};
 ghost use Rattle.history_model.specs.Worlds.{is_edit};
 ghost use Rattle.node_words.specs.shapes.Weights.{number_of_trees};
-ghost use Rattle.table_rule.specs.ViewFacts.{most_before_call};
+ghost use Rattle.node_words.specs.Held.{most_before_call};
 ghost use Rattle.session.specs.Attempts.{AnswersAct, WayCame, nothing_to};
 ghost use Rattle.session.specs.Resting.{Calls, HasLog, IsReady, LooksInTurn};
 

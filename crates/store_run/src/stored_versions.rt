@@ -40,6 +40,7 @@ pub(crate) enum VersionFound {
 
 ghost use Rattle.vox_read.specs.Contents.{AreModels};
 ghost use Rattle.node_words.specs.shapes.Weights.{number_of_trees};
+ghost use Rattle.node_words.specs.Held.{most_before_release};
 ghost use Rattle.history_model.specs.Worlds.{is_edit};
 ghost use Rattle.history_model.specs.Logs.{FitsWorld, suits_tints};
 ghost use Rattle.core_laws.specs.contents.Versions.{HoldsVersion, IsUnmarked};
@@ -138,7 +139,7 @@ impl Versions {
     pub(crate) fn give_back<L: Ledger>(&mut self, root: Option<Share>, steps: &mut Steps<L>)
         requires are { AreStoredVersions self.old }
         requires holds { HoldsTree self.old.store root }
-        requires few { number_of_trees self.old.store.told.held ≤ 4008 }
+        requires few { number_of_trees self.old.store.told.held ≤ most_before_release }
         ensures are { AreStoredVersions self.new }
         ensures plain { AreVersions self.old → AreVersions self.new }
         ensures puts { PutsDown self.old root self.new }

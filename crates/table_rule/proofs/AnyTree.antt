@@ -7,7 +7,7 @@ use Rattle.node_words.proofs.OfShapes.TreeLaws.{gone_from_root}
 use Rattle.node_words.proofs.OfShapes.WeightLaws.{weight_of-there, weight_below-part, weight_below-same}
 use Rattle.node_words.specs.declared.keys.Key as keys
 use Rattle.node_words.specs.declared.keys.Key.TheVariants.{Leaf, Node}
-use Rattle.node_words.specs.Held.{IsHeld, IsReached, AreHeld, HoldsChildren, ReachesName, name_in}
+use Rattle.node_words.specs.Held.{IsHeld, IsReached, AreHeld, HoldsChildren, ReachesName, name_in, most_before_freeing}
 use Rattle.node_words.specs.Plans.{Layout}
 use Rattle.node_words.proofs.HeldLaws.{held_reached}
 use Rattle.core_laws.specs.places.WordIds.{WordId, key_words}
@@ -18,7 +18,7 @@ use Rattle.core_laws.proofs.Trees.{node_at-same}
 use Rattle.table_rule.specs.Reading.{book_of}
 use Rattle.table_rule.specs.Views.{SeatView, bucket_of, key_word_id, known_at}
 use Rattle.table_rule.specs.Rules.{MayWrite}
-use Rattle.table_rule.specs.ViewFacts.{ViewFacts, tree_word, most_before_freeing}
+use Rattle.table_rule.specs.ViewFacts.{ViewFacts, tree_word}
 use Rattle.table_rule.specs.Changes.{making, tree_for, children_of_key, meeting, wanted, IsReady, IsFullIn, Published, Lowered, Freed}
 use Rattle.table_rule.proofs.Publishing.{MayPublish, publishes}
 use Rattle.table_rule.proofs.Loads.{meets, peeks}

@@ -13,7 +13,7 @@ use Rattle.node_words.proofs.OfShapes.WeightLaws.{weigh-cons, weigh-append, weig
 use Rattle.node_words.specs.declared.keys.Key as keys
 use Rattle.node_words.specs.declared.keys.Key.TheVariants.{Leaf, Node}
 use Rattle.node_words.specs.Plans.{Layout}
-use Rattle.node_words.specs.Held.{IsHeld}
+use Rattle.node_words.specs.Held.{IsHeld, most_before_freeing}
 use Rattle.core_laws.specs.places.Names.{key_child}
 use Rattle.core_laws.specs.places.WordIds.{WordId, LogTurn, LogLength, Version, Sessions}
 use Rattle.core_laws.proofs.OfPlaces.KeyLaws.{key_back}
@@ -38,7 +38,6 @@ use Rattle.table_rule.proofs.StateSteps.{ruled_step}
 use Rattle.table_rule.proofs.LogReading.{LogStays}
 use Rattle.table_rule.proofs.LogKept.{same_log}
 use Rattle.table_rule.specs.Changes.{holding, Raised, Lowered, Freed}
-use Rattle.table_rule.specs.ViewFacts.{most_before_freeing}
 use Rattle.table_rule.proofs.Freeing.{written, is_written, freed_unheld}
 use Rattle.table_rule.proofs.Unused.{unused_book, used_where_live}
 use Rattle.table_rule.proofs.Shares.{take_one, held_cons, held_append, row_list, row_list-weighs, row_held}

@@ -9,7 +9,7 @@ use Rattle.node_words.specs.declared.shapes.names.Name.{Name}
 use Rattle.node_words.specs.shapes.Tree.{Tree, root_of}
 use Rattle.node_words.specs.shapes.Weights.{number_of_trees}
 use Rattle.node_words.specs.declared.keys.Key.{Key}
-use Rattle.node_words.specs.Held.{IsHeld, HoldsChildren, ReachesName, ForHeld, ForReached, ForChildren}
+use Rattle.node_words.specs.Held.{IsHeld, HoldsChildren, ReachesName, ForHeld, ForReached, ForChildren, most_before_freeing}
 use Rattle.node_words.specs.Plans.{Layout, IsPlan}
 use Rattle.core_laws.specs.places.Names.{IsName}
 use Rattle.core_laws.specs.places.WordIds.{WordId, Sessions, IsWordId, key_words, width}
@@ -19,7 +19,7 @@ use Rattle.table_rule.specs.Reading.{Wrote, book_of}
 use Rattle.table_rule.specs.Views.{SeatView, BucketAt, bucket_of, key_word_id, known_at, starting, spent}
 use Rattle.table_rule.specs.TurnRules.{IsOf, turn_of, used_of}
 use Rattle.table_rule.specs.Rules.{KeepsRule, IsRuled, table_state, MayWrite, MayStore}
-use Rattle.table_rule.specs.ViewFacts.{ViewFacts, tree_word, most_before_freeing}
+use Rattle.table_rule.specs.ViewFacts.{ViewFacts, tree_word}
 use Rattle.table_rule.specs.Changes.{under_turn, knowing, Counted, BookFound, meeting, children_of_key, wanted, IsFullIn, IsReady, Published, Raised, Lowered, Freed}
 use Rattle.table_rule.specs.Seating.{seat_numbered, handing, handed, joined}
 

@@ -34,20 +34,6 @@ pub record ViewAgrees (v : SeatView) (t : Tree) (n : Name) : Type 0 where
 abbrev pub ForNamed : SeatView → (Tree → Name → Type 0) → Type 0
 ForNamed v P = (t : Tree) (n : Name) → IsReached v.held t → root_of t ≡ Some n → P t n
 
--- of 4,096 shares, the most that a seat holds, so many leave room for an entry to be freed: its own
--- share goes, and those of its eight children come
-abbrev pub most_before_freeing : ℕ
-most_before_freeing = 4089
-
--- so many leave room for a tree to go as a whole: eight shares at each of eleven levels
-abbrev pub most_before_release : ℕ
-most_before_release = 4008
-
--- so many leave room for a session's call: what it takes for itself, at most 108 shares, and then
--- for a tree to go as a whole
-abbrev pub most_before_call : ℕ
-most_before_call = 3900
-
 -- what a view in use tells of the trees that it reaches: they are trees of the world with canonical
 -- shapes, each in the bucket of its shape, one for each name, and one name for each level and
 -- shape; and of the log, and of roots that its turn has shown

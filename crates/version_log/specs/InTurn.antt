@@ -39,7 +39,8 @@ pub record FindsCursor (t : TableState) (v : SeatView) (act : Act) (c : UndoCurs
   pub stands : IsNextCursor v.log.seen.records act c
 
 -- a share of the root of these cells was taken under the turn, where there is a root
-pub record TakesRoot (v : SeatView) (name : Option Name) (cells : World) (w : SeatView) : Type 0 where
+pub record TakesRoot (v : SeatView) (name : Option Name) (cells : World) (w : SeatView)
+    : Type 0 where
   pub only : OnlySharesChange v w
   pub root : HoldsRootOf w name cells
   pub gains : GetsRoot v.held name w.held

@@ -38,7 +38,8 @@ pub record IsNextCursor (records : List Record) (act : Act) (s : UndoCursor) : T
   pub small : (s.now ≤ 65535) × (s.last ≤ 65535)
 
 -- where an undo or a redo goes, and where the history then stands, as it was looked up
-pub record FindsTarget (records : List Record) (act : Act) (found : Option UndoCursor) : Type 0 where
+pub record FindsTarget (records : List Record) (act : Act) (found : Option UndoCursor)
+    : Type 0 where
   pub target : version_of found ≡ act_target records act
   pub behind : IfSome found (IsNextCursor records act)
 

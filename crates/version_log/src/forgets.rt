@@ -1,6 +1,7 @@
 // Versions that are forgotten.
 ghost use Rattle.std.specs.Prelude.{◌≡◌, ◌≤◌, IfOk, IfErr};
 ghost use Rattle.node_words.specs.shapes.Weights.{number_of_trees};
+ghost use Rattle.node_words.specs.Held.{most_before_call};
 ghost use Rattle.version_log.specs.Forgets.{ForgetsVersion, RefusesForget};
 ghost use Rattle.version_log.specs.Seeing.{StandsFree, OnlyReadsLog};
 
@@ -19,7 +20,7 @@ pub fn forget<R: Wait>(
     line: u32,
 ) -> Result<Forgot, ForgetRefused>
     requires free { StandsFree table.now pass.old }
-    requires room { number_of_trees pass.old.view.held ≤ 3900 }
+    requires room { number_of_trees pass.old.view.held ≤ most_before_call }
     ensures free { StandsFree table.now pass.new }
     ensures forgets { IfOk result (λ f. ForgetsVersion pass.old.view v line f pass.new.view) }
     ensures refused { IfErr result (λ e. RefusesForget v e pass.new.view) }

@@ -1,6 +1,7 @@
 // Versions that are pinned.
 ghost use Rattle.std.specs.Prelude.{◌≡◌, ◌≤◌, ◌+◌, IfOk, IfErr};
 ghost use Rattle.node_words.specs.shapes.Weights.{number_of_trees};
+ghost use Rattle.node_words.specs.Held.{most_before_call};
 ghost use Rattle.version_log.specs.Pins.{PinsVersion, RefusesPin, version_asked};
 ghost use Rattle.version_log.specs.Roots.{turns_for};
 ghost use Rattle.version_log.specs.Seeing.{StandsFree, OnlyReadsLog};
@@ -34,7 +35,7 @@ pub fn pin<R: Wait, L: Ledger>(
     steps: &mut Steps<L>,
 ) -> Result<Pinned, PinRefused>
     requires free { StandsFree table.now pass.old }
-    requires room { number_of_trees pass.old.view.held ≤ 3900 }
+    requires room { number_of_trees pass.old.view.held ≤ most_before_call }
     ensures free { StandsFree table.now pass.new }
     ensures looks { OnlyReadsLog pass.old.view pass.new.view }
     ensures pinned { IfOk result (λ p. PinsVersion pass.old.view version p pass.new.view) }

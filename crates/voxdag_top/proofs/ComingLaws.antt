@@ -6,8 +6,8 @@ use Rattle.vw_io.specs.declared.shelves.ReadRefused.{ReadRefused}
 use Rattle.vw_io.specs.declared.shelves.ReadRefused.TheVariants as reads
 use Rattle.script_files.specs.Closed.{Closed}
 use Rattle.commands.specs.declared.refusals.CommandRefused.TheVariants.{Input, Text, Output}
-use Rattle.commands.specs.declared.refusals.OutputRefused.{OutputRefused}
-use Rattle.commands.specs.declared.refusals.OutputRefused.TheVariants as outputs
+use Rattle.commands.specs.declared.refusals.NamedOutputRefused.{NamedOutputRefused}
+use Rattle.commands.specs.declared.refusals.NamedOutputRefused.TheVariants as outputs
 use Rattle.commands.specs.declared.refusals.TextRefused.{TextRefused}
 use Rattle.commands.specs.declared.refusals.TextRefused.TheVariants.{StoreFull, Memory}
 use Rattle.node_words.specs.declared.shares.Full.{Full}
@@ -81,7 +81,7 @@ read_status a v reads.Failed name result follows is = failed_input_or a v result
 read_status a v reads.Memory name result follows is =
     inl (inl (memory_or (status_for v) result is))
 
-write_status : (a : Option Request) (v : Verdict) (r : OutputRefused) (result : ℕ) → v ≡ Fine
+write_status : (a : Option Request) (v : Verdict) (r : NamedOutputRefused) (result : ℕ) → v ≡ Fine
     → IsOr (output_status r) result → Comes a v result
 write_status a v (outputs.Failed line) result fine is = failed_output_or a v result fine is
 write_status a v outputs.Memory result fine is =

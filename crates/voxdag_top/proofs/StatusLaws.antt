@@ -7,8 +7,8 @@ use Rattle.vw_io.specs.declared.inputs.InputRefused.{InputRefused}
 use Rattle.vw_io.specs.declared.shelves.ReadRefused.{ReadRefused}
 use Rattle.vw_io.specs.declared.shelves.ReadRefused.TheVariants as reads
 use Rattle.commands.specs.declared.refusals.CommandRefused.TheVariants.{Input, Text, Output}
-use Rattle.commands.specs.declared.refusals.OutputRefused.{OutputRefused}
-use Rattle.commands.specs.declared.refusals.OutputRefused.TheVariants as outputs
+use Rattle.commands.specs.declared.refusals.NamedOutputRefused.{NamedOutputRefused}
+use Rattle.commands.specs.declared.refusals.NamedOutputRefused.TheVariants as outputs
 use Rattle.commands.specs.declared.refusals.TextRefused.{TextRefused}
 use Rattle.commands.specs.declared.refusals.TextRefused.TheVariants.{Vox, Script, Collides, NoScene, NoPlace, StoreFull, NoDag, Journal, Transcript, Memory}
 use Rattle.requests.specs.declared.orders.Request.{Request}
@@ -84,7 +84,7 @@ module _ (a : Request) (left : Option Closed) (old new : Outside) where
     );
   }
 
-  output_means : (r : OutputRefused) → EndsAs (Some a) (Refused (Output r)) old.shelf new.shelf
+  output_means : (r : NamedOutputRefused) → EndsAs (Some a) (Refused (Output r)) old.shelf new.shelf
       → Puts old.out.told new.out.told (ending_line (Refused (Output r)))
       → StatusMeans (output_status r) (Some a) left old new
   output_means (outputs.Failed line) ends puts = record {

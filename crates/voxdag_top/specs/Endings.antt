@@ -8,8 +8,8 @@ use Rattle.vox_scene.specs.Faults.{scene_kind_of, place_of_fault}
 use Rattle.script.specs.Faults.{number_of_kind}
 use Rattle.commands.specs.declared.refusals.CommandRefused.{CommandRefused}
 use Rattle.commands.specs.declared.refusals.CommandRefused.TheVariants.{Input, Text, Output}
-use Rattle.commands.specs.declared.refusals.OutputRefused.{OutputRefused}
-use Rattle.commands.specs.declared.refusals.OutputRefused.TheVariants as outputs
+use Rattle.commands.specs.declared.refusals.NamedOutputRefused.{NamedOutputRefused}
+use Rattle.commands.specs.declared.refusals.NamedOutputRefused.TheVariants as outputs
 use Rattle.commands.specs.declared.refusals.TextRefused.{TextRefused}
 use Rattle.commands.specs.declared.refusals.TextRefused.TheVariants.{Vox, Script, Collides, NoScene, NoPlace, StoreFull, NoDag, Journal, Transcript, Memory}
 use Rattle.requests.specs.declared.orders.Request.{Request}
@@ -45,7 +45,7 @@ input_status reads.Failed = FailedInput
 input_status reads.Memory = LackingMemory
 input_status reads.TooLong = LongInput
 
-abbrev pub output_status : OutputRefused → Status
+abbrev pub output_status : NamedOutputRefused → Status
 output_status (outputs.Failed line) = FailedOutput
 output_status outputs.Memory = LackingMemory
 
@@ -95,7 +95,7 @@ ending_line (Refused r) = refused_line r
 
 -- the ending's line may lack memory, and then the one of want of memory stands for it: not at a
 -- fault of an output, whose file may be half written
-abbrev pub OutputMayLackLine : OutputRefused → Type 0
+abbrev pub OutputMayLackLine : NamedOutputRefused → Type 0
 OutputMayLackLine (outputs.Failed line) = ⊥
 OutputMayLackLine outputs.Memory = ⊤
 

@@ -4,8 +4,8 @@ use Rattle.std.specs.Fmt.{decimal}
 use Rattle.vw_io.specs.Put.{AppendsPrefix}
 use Rattle.vw_io.specs.declared.shelves.ReadRefused.{ReadRefused}
 use Rattle.vw_io.specs.declared.shelves.ReadRefused.TheVariants as reads
-use Rattle.commands.specs.declared.refusals.OutputRefused.{OutputRefused}
-use Rattle.commands.specs.declared.refusals.OutputRefused.TheVariants as outputs
+use Rattle.commands.specs.declared.refusals.NamedOutputRefused.{NamedOutputRefused}
+use Rattle.commands.specs.declared.refusals.NamedOutputRefused.TheVariants as outputs
 use Rattle.script_files.specs.declared.tallies.Done.{Done}
 use Rattle.script_files.specs.declared.tallies.Done.TheVariants.{Written, Counted, Ran, Shown, Placed, Looked, Answered}
 use Rattle.transcript.specs.declared.answers.Answer.{Answer}
@@ -81,7 +81,7 @@ input_line reads.Failed name = read_fault_line name
 input_line reads.Memory name = memory_line
 
 -- the refusal of an output holds the line of a fault
-abbrev pub output_line : OutputRefused → List ℕ
+abbrev pub output_line : NamedOutputRefused → List ℕ
 output_line (outputs.Failed line) = string_bytes line
 output_line outputs.Memory = memory_line
 

@@ -6,7 +6,7 @@ ghost use Rattle.voxdag_top.specs.Endings.{ended_with, ending_line, refused_line
 ghost use Rattle.voxdag_top.specs.Finishing.{PutEnds, Finishes};
 
 use crate::endings::{Ending, Gated};
-use commands::{CommandRefused, NumberedFault, OutputRefused, SceneTally, TextRefused};
+use commands::{CommandRefused, NamedOutputRefused, NumberedFault, SceneTally, TextRefused};
 use script_files::{Done, Ended, LoadTally, Tally};
 use std::alloc::{AllocError, Global};
 use transcript::Answer;
@@ -57,8 +57,8 @@ fn held_line<'a>(ending: &'a Ending<'_>) -> Option<&'a str>
             CommandRefused::Input(_) => None,
             CommandRefused::Text(_) => None,
             CommandRefused::Output(output) => match output {
-                OutputRefused::Failed(line) => Some(line.as_str()),
-                OutputRefused::Memory => None,
+                NamedOutputRefused::Failed(line) => Some(line.as_str()),
+                NamedOutputRefused::Memory => None,
             },
         },
     }
@@ -118,8 +118,8 @@ fn refused_status(refused: &CommandRefused<'_>) -> u8
             TextRefused::Memory => 8,
         },
         CommandRefused::Output(output) => match output {
-            OutputRefused::Failed(_) => 6,
-            OutputRefused::Memory => 8,
+            NamedOutputRefused::Failed(_) => 6,
+            NamedOutputRefused::Memory => 8,
         },
     }
 }
@@ -222,8 +222,8 @@ fn refused_line(alloc: Global, refused: &CommandRefused<'_>) -> Result<String, A
         CommandRefused::Input(input) => input_line(alloc, input),
         CommandRefused::Text(text) => text_line(alloc, text),
         CommandRefused::Output(output) => match output {
-            OutputRefused::Failed(_) => unreachable!(),
-            OutputRefused::Memory => format!(in alloc; "voxdag: memory\n"),
+            NamedOutputRefused::Failed(_) => unreachable!(),
+            NamedOutputRefused::Memory => format!(in alloc; "voxdag: memory\n"),
         },
     }
 }

@@ -6,6 +6,7 @@ use Rattle.node_words.specs.declared.shapes.names.Name.{Name}
 use Rattle.node_words.specs.shapes.Shape.{ShowsCells}
 use Rattle.node_words.specs.shapes.Tree.{shape_of}
 use Rattle.node_words.specs.declared.keys.Key as keys
+use Rattle.node_words.specs.Held.{most_before_freeing}
 use Rattle.node_words.specs.Plans.{Layout}
 use Rattle.core_laws.specs.places.WordIds.{levels}
 use Rattle.history_model.specs.declared.acts.Act.{Act}
@@ -57,7 +58,7 @@ pub record MayRaise (state : State) (session : ℕ) (n : Name) : Type 0 where
 -- the children's shares find room: of at most 4,096, one goes and eight come
 pub record MayLower (state : State) (session : ℕ) (n : Name) : Type 0 where
   pub held : HoldsShares state session (Some n ∷ [])
-  pub room : HoldsAtMost state session 4089
+  pub room : HoldsAtMost state session most_before_freeing
 
 -- the root shows just the cells that the act makes of the newest version; an undo or a redo has a
 -- version to go to, which isn't forgotten

@@ -24,6 +24,9 @@ use node_words::Name;
 use std::alloc::Global;
 use vw_cell::{Cell, Memory};
 
+// Of at most 4,096 shares one goes and those of eight children come.
+const MOST_BEFORE_FREEING: usize = 4089;
+
 impl Parts<'_> {
     fn may_take_leaf(&self, session: u16, bits: u64) -> bool
         ensures { IsTrue result ↔ MayTakeLeaf (stored_state (stored self.now)) session bits }
@@ -62,7 +65,7 @@ impl Parts<'_> {
         ensures { IfOk result (λ b. IsTrue b
             ↔ MayLower (stored_state (stored self.now)) session n) }
     {
-        if !self.has_room(session, 4089) {
+        if !self.has_room(session, MOST_BEFORE_FREEING) {
             return Ok(false);
         }
         self.holds(alloc, session, &[Some(n)])

@@ -1,6 +1,6 @@
 ghost use Rattle.std.specs.Prelude.{◌≡◌, ◌+◌, ◌-◌, ◌^◌, ◌<◌, ◌≤◌, ℕ, None, OnOk, IsTrue};
 ghost use Rattle.node_words.specs.shapes.Weights.{number_of_trees};
-ghost use Rattle.node_words.specs.Held.{HasChild, name_in};
+ghost use Rattle.node_words.specs.Held.{HasChild, most_before_release, name_in};
 ghost use Rattle.edit_walk.specs.blocks.Blocks.{JoinCame, HasOctants, ForOctants, MakesLeaf};
 
 use crate::blocks::rows::back_all;
@@ -37,7 +37,7 @@ pub fn join<N: NodeStore, L: Ledger>(
 ) -> Result<Option<Share>, Full>
     requires level { (1 ≤ level) × (level + 2 ≤ (N.seen store.old).plan.side) }
     requires octants { HasOctants level children (N.seen store.old) }
-    requires room { number_of_trees (N.seen store.old).held ≤ 4008 }
+    requires room { number_of_trees (N.seen store.old).held ≤ most_before_release }
     ensures joined { ForOctants level children (N.seen store.old)
         (λ rest full target was. JoinCame rest was level target result (N.seen store.old)
         (N.seen store.new) full) }

@@ -2,6 +2,7 @@ ghost use Rattle.std.specs.Prelude.{◌≡◌, ◌<◌, ◌≤◌, ℕ, None, le
 ghost use Rattle.node_words.specs.shapes.Tree.{Tree};
 ghost use Rattle.node_words.specs.shapes.Weights.{number_of_trees};
 ghost use Rattle.node_words.specs.Held.{OnlyHeldChanges, HoldsChildren, ForChildren, name_in};
+ghost use Rattle.node_words.specs.Held.{most_before_release};
 ghost use Rattle.node_words.specs.Gathering.{LosesAll};
 
 use crate::blocks::shares::back_if;
@@ -24,7 +25,7 @@ pub fn back_all<N: NodeStore, L: Ledger>(
     steps: &mut Steps<L>,
 )
     requires held { HoldsChildren (N.seen store.old).held children }
-    requires room { number_of_trees (N.seen store.old).held ≤ 4008 }
+    requires room { number_of_trees (N.seen store.old).held ≤ most_before_release }
     ensures gone { ForChildren (N.seen store.old).held children
         (λ row. LosesAll (N.seen store.old).held row 8 (N.seen store.new).held) }
     ensures only { OnlyHeldChanges (N.seen store.old) (N.seen store.new) }

@@ -2,7 +2,7 @@ ghost use Rattle.std.specs.Prelude.{◌≡◌, ◌+◌, ◌≤◌, ℕ, List, Op
 ghost use Rattle.node_words.specs.declared.shapes.names.Name.{Name};
 ghost use Rattle.node_words.specs.shapes.Tree.{Tree, root_of, shape_of};
 ghost use Rattle.node_words.specs.shapes.Weights.{number_of_trees};
-ghost use Rattle.node_words.specs.Held.{OnlyHeldChanges};
+ghost use Rattle.node_words.specs.Held.{OnlyHeldChanges, most_before_release};
 ghost use Rattle.edit_walk.specs.blocks.Blocks.{HasTree, AgainBeside, MayGoBack, ReturnsShare, BackTurns};
 
 use node_words::{Name, NodeStore, Share, Steps};
@@ -40,7 +40,7 @@ pub fn again<N: NodeStore, L: Ledger>(
 /// Gives back what may be a share.
 pub fn back_if<N: NodeStore, L: Ledger>(store: &mut N, share: Option<Share>, steps: &mut Steps<L>)
     requires held { MayGoBack (N.seen store.old).held share }
-    requires room { number_of_trees (N.seen store.old).held ≤ 4008 }
+    requires room { number_of_trees (N.seen store.old).held ≤ most_before_release }
     ensures gone { ReturnsShare share (N.seen store.old).held (N.seen store.new).held }
     ensures only { OnlyHeldChanges (N.seen store.old) (N.seen store.new) }
     ensures rests { N.rests store.old store.new }

@@ -2,9 +2,8 @@ use Rattle.std.proofs.Common.{rules, ◌≡◌, ◌≤◌, ◌+◌, ◌-◌, ◌
 use Rattle.node_words.specs.declared.shapes.names.Name.{Name}
 use Rattle.node_words.specs.shapes.Tree.{Tree, child_of}
 use Rattle.node_words.specs.shapes.Weights.{number_of_trees}
-use Rattle.node_words.specs.Held.{AreBelow, AreHeld, HoldsChildren, HoldsName, name_in}
+use Rattle.node_words.specs.Held.{AreBelow, AreHeld, HoldsChildren, HoldsName, name_in, most_before_freeing}
 use Rattle.node_words.proofs.GatherLaws.{may_next}
-use Rattle.table_rule.specs.ViewFacts.{most_before_freeing}
 use Rattle.node_table.specs.Views.{SeatView}
 use Rattle.node_table.proofs.OnlyShares.{only_on}
 use Rattle.node_table.proofs.Taking.{one_emptied}
