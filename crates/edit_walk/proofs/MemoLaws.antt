@@ -346,24 +346,7 @@ recalls_none makes held memo none = record {
   recalls = recalls_nothing makes held held memo none;
 }
 
--- an octant, after those before it
-pub part_begins : {T : Type 0} (makes : T → Making) (base rest : List Tree) (level : ℕ)
-    (task part : T) (cells at : Cells) (cs ws : List (Option Name)) (k : ℕ) (a b : StoreState)
-    (full : Option Name) (memo : MemoSet T)
-    → b ≡ a → (p : Partway makes base rest level task cells cs ws k (walk_at a full memo))
-    → makes part base (level - 1) at
-    → Begins makes base p.finds.now (level - 1) part at (walk_at b full memo)
-part_begins makes base rest level task part cells at cs ws k a b full memo e p m = record {
-  starts = record {
-    keeps =
-        (part_starts base rest a full (level - 1) _ cs ws k p.keeps p.finds).keeps;
-    aside = subst
-        (λ (v : StoreState). Aside v.held full p.finds.now) (sym e) p.finds.aside;
-  };
-  made = m;
-  recalls = p.recalls;
-}
-
+-- what was there as the block began is held after each octant
 pub part_keeps : {T : Type 0} (makes : T → Making) (base rest : List Tree) (level : ℕ) (task : T)
     (cells : Cells) (cs ws : List (Option Name)) (k : ℕ) (walk : Walk T)
     → Partway makes base rest level task cells cs ws k walk → Keeps base walk.seen.held

@@ -1,5 +1,6 @@
 pub mod Edits
 pub mod Memos
+pub mod Octants
 pub mod Outcomes
 pub mod Walks
 pub mod cells

@@ -2,7 +2,7 @@
 use Rattle.std.specs.Prelude.{ℕ, ◌+◌, ◌-◌, ◌*◌, ◌≤◌, max, Bool, Option, List, Result, Ok, Err}
 use Rattle.vw_cell.specs.declared.cells.Cell.{Cell}
 use Rattle.node_words.specs.declared.shapes.names.Name.{Name}
-use Rattle.node_words.specs.shapes.Shape.{Shape, octant_shape}
+use Rattle.node_words.specs.shapes.Shape.{Shape}
 use Rattle.node_words.specs.shapes.Tree.{Tree}
 use Rattle.node_words.specs.declared.shares.Full.{Full}
 use Rattle.node_words.specs.Held.{StoreState}
@@ -163,22 +163,6 @@ FoundTurns top mixed (Ok (Stands name)) before after old new =
 FoundTurns top mixed (Ok (Made name)) before after old new =
     TookTurns 1 top mixed before after old new
 FoundTurns top mixed (Err full) before after old new = Unit {0}
-
--- the octants before octant k were found
-abbrev pub CanGoOn : {T : Type 0} → (T → Making) → ℕ → T → List (Option Name) → List (Option Name)
-    → ℕ → Walk T → Type 0
-CanGoOn makes level task children standing k walk =
-    (base : List Tree) × (rest : List Tree) × (cells : Cells)
-    × Partway makes base rest level task cells children standing k walk
-
--- P of all that the octant can begin with: the trees that stay held, what is held besides the full
--- block, and the octant's shape
-abbrev pub ForOctant : {T : Type 0} → (T → Making) → ℕ → T → List (Option Name)
-    → List (Option Name) → ℕ → Walk T → (List Tree → List Tree → Shape → Type 0) → Type 0
-ForOctant makes level task children standing k walk P =
-    (base rest : List Tree) (cells : Cells)
-    → (p : Partway makes base rest level task cells children standing k walk)
-    → P base p.finds.now (octant_shape (shape_with level cells) k)
 
 -- the block is known as a whole
 abbrev pub CanBeWhole : ℕ → Whole → StoreState → Option Name → Type 0

@@ -12,6 +12,7 @@
 mod blocks;
 mod cells;
 mod memos;
+mod octants;
 mod outcomes;
 mod upper;
 mod walks;

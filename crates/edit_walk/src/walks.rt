@@ -7,11 +7,12 @@ ghost use Rattle.edit_walk.specs.cells.Tasks.{MakesCells, ForCells};
 ghost use Rattle.edit_walk.specs.Edits.{MakesBlock};
 ghost use Rattle.edit_walk.specs.declared.memos.MemoEntry.{MemoEntry};
 ghost use Rattle.edit_walk.specs.Memos.{RecallsHeld};
-ghost use Rattle.edit_walk.specs.Walks.{walk_at, CanBuild, TookTurns, FoundTurns, WalksBlock, FindsBlock, BlockFound, WholeFound, WalksOctants, CanGoOn, ForOctant, CanBeWhole, ForWhole};
+ghost use Rattle.edit_walk.specs.Walks.{walk_at, CanBuild, TookTurns, FoundTurns, WalksBlock, FindsBlock, WholeFound, WalksOctants, CanBeWhole, ForWhole};
 
 use crate::blocks::{back_all, back_if, full_block};
 use crate::cells::{Task, Whole};
 use crate::memos::{Memo, MemoEntry};
+use crate::octants::Octants;
 use crate::outcomes::{WalkedBlock, lay, leaf_or_old, node_or_old, taken_up};
 use node_words::{Full, Name, NodeStore, Share, Steps, end_all};
 use std::sync::ledger::Ledger;
@@ -219,10 +220,10 @@ fn gather<T: Task, M: Memo<T>, N: NodeStore, L: Ledger>(
     ensures took { OnOk result (TookTurns 8 level (sum_below 8 (T.mixed_in level task.now)) full.old
         full.new steps.old steps.new) }
 {
+    let octants = Octants::of(store, level, *task);
     for k in 0..8usize {
-        match octant(
-            store, level, task, k as u8, children, standing, full, memo, steps,
-        ) {
+        let part = octants.at(k);
+        match build(store, level - 1, part, full, memo, steps) {
             Ok(block) => lay(children, standing, k, block),
             Err(e) => {
                 back_all(store, taken(children), steps);
@@ -239,41 +240,6 @@ fn taken(children: &mut [Option<Share>; 8]) -> [Option<Share>; 8]
     ensures none { (k : ℕ) → k < 8 → name_in children.new k ≡ None }
 {
     std::mem::replace(children, [None, None, None, None, None, None, None, None])
-}
-
-// Octant k of the block that the task makes, those before it being found.
-#[cycle(walk)]
-fn octant<T: Task, M: Memo<T>, N: NodeStore, L: Ledger>(
-    store: &mut N,
-    level: u8,
-    task: &T,
-    k: u8,
-    children: &[Option<Share>; 8],
-    standing: &[Option<Name>; 8],
-    full: &mut Option<Share>,
-    memo: &mut M,
-    steps: &mut Steps<L>,
-) -> Result<WalkedBlock, Full>
-    requires above { 1 ≤ level }
-    requires level { (level ≤ 10) × (level + 2 ≤ (N.seen store.old).plan.side) }
-    requires octant { k < 8 }
-    requires task { CanGoOn T.makes level task.now children.now standing.now k
-        (walk_at (N.seen store.old) full.old (M.has memo.old)) }
-    requires room { number_of_trees (N.seen store.old).held + 9 * (level - 1) ≤ 4000 }
-    ensures walked { ForOctant T.makes level task.now children.now standing.now k
-        (walk_at (N.seen store.old) full.old (M.has memo.old))
-        (λ base rest target. BlockFound T.makes base rest (level - 1) target result
-        (walk_at (N.seen store.old) full.old (M.has memo.old))
-        (walk_at (N.seen store.new) full.new (M.has memo.new))) }
-    ensures rests { N.rests store.old store.new }
-    ensures took { FoundTurns level (T.mixed_in level task.now k) result full.old full.new
-        steps.old steps.new }
-{
-    let part = task.octant(store, level, k);
-    match build(store, level - 1, &part, full, memo, steps) {
-        Ok(block) => Ok(block),
-        Err(e) => Err(e),
-    }
 }
 
 /// A share of the block that the task makes, where a cell of it is set. A store that met a full

@@ -1,13 +1,13 @@
 use Rattle.std.proofs.Common.{List, Option, None, [], ◌∷◌, length, add-one, refl, sym, ◌∙◌, ap, subst, arith, ℕ, ◌≡◌, ◌≤◌, ◌<◌, ◌+◌, ◌-◌, ◌^◌}
 use Rattle.vw_cell.specs.Sums.{sum_below, sum_below-suc, sum_below-zero}
-use Rattle.node_words.specs.shapes.Weights.{number_of_trees}
 use Rattle.node_words.specs.declared.shapes.names.Name.{Name}
 use Rattle.node_words.specs.Plans.{Layout}
 use Rattle.node_words.specs.Held.{StoreState}
+use Rattle.node_words.specs.Gathering.{Grows}
 use Rattle.node_words.specs.descent.Roots.{HasBlock}
 use Rattle.node_words.proofs.HeldLaws.{keeps_itself}
 use Rattle.node_words.proofs.GatherLaws.{grows_none}
-use Rattle.node_words.specs.contents.CellShapes.{shape_with, octant_cells}
+use Rattle.node_words.specs.contents.CellShapes.{shape_with}
 use Rattle.node_words.proofs.OfContents.CellShapeLaws.{shape_with-canonical}
 use Rattle.edit_walk.specs.cells.Paints.{IsOld}
 use Rattle.edit_walk.specs.Walks.{walk_at, Partway}
@@ -15,8 +15,9 @@ use Rattle.edit_walk.proofs.OfBlocks.AsideLaws.{aside_numbers}
 use Rattle.edit_walk.proofs.OfBlocks.JoinLaws.{grows_on, grows_in, refuses_after, refuses_held, refuses_octant}
 use Rattle.edit_walk.proofs.OfCells.PaintLaws.{old_has}
 use Rattle.edit_walk.proofs.OutcomeLaws.{finds_back, finds_empty, finds_held, finds_number, laid_long, met_finds}
-use Rattle.edit_walk.proofs.WalkLaws.{starts_held, leaf_target, octant_target, target_grows, target_refuses}
-use Rattle.edit_walk.proofs.MemoLaws.{found_kept, found_recalls, found_turns, hit_found, leaf_walked, node_turns, node_walked, part_begins, part_keeps, partway_none, partway_one, target_found}
+use Rattle.edit_walk.proofs.OctantLaws.{octant_begins, octant_found, octant_mixed, octant_stops}
+use Rattle.edit_walk.proofs.WalkLaws.{starts_held, leaf_target}
+use Rattle.edit_walk.proofs.MemoLaws.{found_kept, found_recalls, found_turns, hit_found, leaf_walked, node_turns, node_walked, part_keeps, partway_none, partway_one}
 use Rattle.edit_walk.proofs.walks.+walk.Goals as goal
 
 pub build-returns-in-Ok-clause-walked : goal.build-returns-in-Ok-clause-walked
@@ -115,37 +116,50 @@ made-returns-in-Ok-clause-took g t c =
     (sum_below 8 (g.T.Task.mixed_in c.args.level c.args.task.now)) c.node_or_old.result _ _ _ _ _
     (c.requires.mixed one) c.in-Ok.ensures.took c.node_or_old.ensures.turns
 
-pub gather-loop-k-init : goal.gather-loop-k-init
-gather-loop-k-init g t c = record {
-  turns = omega (arith, sum_below-zero (g.T.Task.mixed_in c.args.level c.args.task.now));
-  height_is = omega arith;
-  partway = λ base rest cells b.
-      subst (λ (row : List
-      (Option Name)). Partway g.T.Task.makes base rest c.args.level c.args.task.now cells row
-      c.args.standing.now 0
-      (walk_at (g.N.Blocks.seen c.args.store.now) c.args.full.now
-      (g.M.Memo.has c.args.memo.now))) (sym c.requires.empty)
-      (subst (λ (row : List
-      (Option Name)). Partway g.T.Task.makes base rest c.args.level c.args.task.now cells
-      (None ∷ None ∷ None ∷ None ∷ None ∷ None ∷ None ∷ None ∷ []) row 0
-      (walk_at (g.N.Blocks.seen c.args.store.now) c.args.full.now
-      (g.M.Memo.has c.args.memo.now))) (sym c.requires.unnamed)
-      (partway_none _ base rest _ _ cells _ b));
-  grows = λ base rest cells b. grows_none _ _;
-  long = ap length c.requires.empty;
-  wide = ap length c.requires.unnamed;
-  rests = g.met.N.Blocks.rests_itself _;
-}
+pub gather-of-octants-requires-clause-task : goal.gather-of-octants-requires-clause-task
+gather-of-octants-requires-clause-task g t c =
+    let (base, rest, cells, b) = c.requires.task in
+    (base, cells, starts_held base rest _ _ b.starts, b.made)
 
-pub gather-octant-requires : goal.gather-octant-requires
-gather-octant-requires g t c κs within =
+pub gather-loop-k-init : goal.gather-loop-k-init
+gather-loop-k-init g t c =
+    let seen = sym c.of-octants.ensures.seen in record {
+      turns = omega (arith, sum_below-zero (g.T.Task.mixed_in c.args.level c.args.task.now));
+      height_is = omega arith;
+      partway = λ base rest cells b.
+          subst (λ (v : StoreState). Partway g.T.Task.makes base rest c.args.level c.args.task.now cells
+          c.args.children.now c.args.standing.now 0
+          (walk_at v c.args.full.now (g.M.Memo.has c.args.memo.now))) seen
+          (subst (λ (row : List
+          (Option Name)). Partway g.T.Task.makes base rest c.args.level c.args.task.now cells row
+          c.args.standing.now 0
+          (walk_at (g.N.Blocks.seen c.args.store.now) c.args.full.now
+          (g.M.Memo.has c.args.memo.now))) (sym c.requires.empty)
+          (subst (λ (row : List
+          (Option Name)). Partway g.T.Task.makes base rest c.args.level c.args.task.now cells
+          (None ∷ None ∷ None ∷ None ∷ None ∷ None ∷ None ∷ None ∷ []) row 0
+          (walk_at (g.N.Blocks.seen c.args.store.now) c.args.full.now
+          (g.M.Memo.has c.args.memo.now))) (sym c.requires.unnamed)
+          (partway_none _ base rest _ _ cells _ b)));
+      grows = λ base rest cells b.
+          subst (λ (v : StoreState). Grows (shape_with c.args.level cells)
+          (g.N.Blocks.seen c.args.store.now) v) seen (grows_none _ _);
+      long = ap length c.requires.empty;
+      wide = ap length c.requires.unnamed;
+      rests = c.of-octants.ensures.rests;
+    }
+
+pub gather-build-requires : goal.gather-build-requires
+gather-build-requires g t c κs within =
     let (base, rest, cells, b) = c.requires.task in
     let p = c.loop-k.invariant.partway base rest cells b in
     let x = ap (λ (p : Layout). p.side) (c.loop-k.invariant.grows base rest cells b).plan in
     let one : 1 ≤ c.args.level = omega arith in
-    let side : c.args.level + 2 ≤ (g.N.Blocks.seen c.loop-k.store).plan.side =
-    omega (arith, x, c.requires.level.1) in
-    let lt : c.loop-k.k < 8 = omega arith in (
+    let lt : c.loop-k.k < 8 = omega arith in
+    let begins = octant_begins g.T.Task.makes base rest _ c.args.level _ _ c.of-octants.result cells
+    _ _ c.loop-k.k _ c.of-octants.ensures.tasks c.at-part.ensures
+    (starts_held base rest _ _ b.starts) lt p in
+    let low : c.args.level - 1 ≤ 10 = omega (arith, c.requires.level.0) in (
       omega (arith, c.decreases),
       (
         within.0,
@@ -156,21 +170,15 @@ gather-octant-requires g t c κs within =
             (
               within.1.1.1,
               (
-                one,
+                (low, omega (arith, x, c.requires.level.1, one)),
                 (
-                  (c.requires.level.0, side),
-                  (
-                    lt,
-                    (
-                      (base, rest, cells, p),
-                      omega (
-                        arith,
-                        finds_number rest _ _ _ _ _ _ 0 _ p.finds,
-                        (aside_numbers _ rest _ b.starts.aside).least,
-                        c.requires.room,
-                        one,
-                      ),
-                    ),
+                  (base, p.finds.now, _, begins),
+                  omega (
+                    arith,
+                    finds_number rest _ _ _ _ _ _ 0 _ p.finds,
+                    (aside_numbers _ rest _ b.starts.aside).least,
+                    c.requires.room,
+                    one,
                   ),
                 ),
               ),
@@ -190,7 +198,12 @@ pub gather-back_all-requires-clause-held : goal.gather-back_all-requires-clause-
 gather-back_all-requires-clause-held g t c =
     let (base, rest, cells, b) = c.requires.task in
     let p = c.loop-k.invariant.partway base rest cells b in
-    let a = met_finds rest _ _ _ _ _ _ _ _ 0 _ p.finds (c.in-Err.ensures.walked base rest cells p).aside in
+    let lt : c.loop-k.k < 8 = omega arith in
+    let begins = octant_begins g.T.Task.makes base rest _ c.args.level _ _ c.of-octants.result cells
+    _ _ c.loop-k.k _ c.of-octants.ensures.tasks c.at-part.ensures
+    (starts_held base rest _ _ b.starts) lt p in
+    let a = met_finds rest _ _ _ _ _ _ _ _ 0 _ p.finds
+    (c.in-Err.ensures.walked base p.finds.now _ begins).aside in
     record {
       row = a.row;
       are_held = rw c.taken.ensures.row
@@ -201,7 +214,12 @@ pub gather-back_all-requires-clause-room : goal.gather-back_all-requires-clause-
 gather-back_all-requires-clause-room g t c =
     let (base, rest, cells, b) = c.requires.task in
     let p = c.loop-k.invariant.partway base rest cells b in
-    let a = met_finds rest _ _ _ _ _ _ _ _ 0 _ p.finds (c.in-Err.ensures.walked base rest cells p).aside in
+    let lt : c.loop-k.k < 8 = omega arith in
+    let begins = octant_begins g.T.Task.makes base rest _ c.args.level _ _ c.of-octants.result cells
+    _ _ c.loop-k.k _ c.of-octants.ensures.tasks c.at-part.ensures
+    (starts_held base rest _ _ b.starts) lt p in
+    let a = met_finds rest _ _ _ _ _ _ _ _ 0 _ p.finds
+    (c.in-Err.ensures.walked base p.finds.now _ begins).aside in
     omega (
       arith,
       finds_number rest _ _ _ _ _ _ 0 _ a,
@@ -213,7 +231,13 @@ gather-back_all-requires-clause-room g t c =
 pub gather-returns-in-Err-clause-walked : goal.gather-returns-in-Err-clause-walked
 gather-returns-in-Err-clause-walked g t c base rest cells b =
     let p = c.loop-k.invariant.partway base rest cells b in
-    let stops = c.in-Err.ensures.walked base rest cells p in
+    let one : 1 ≤ c.args.level = omega arith in
+    let lt : c.loop-k.k < 8 = omega arith in
+    let begins = octant_begins g.T.Task.makes base rest _ c.args.level _ _ c.of-octants.result cells
+    _ _ c.loop-k.k _ c.of-octants.ensures.tasks c.at-part.ensures
+    (starts_held base rest _ _ b.starts) lt p in
+    let stops = octant_stops p.finds.now c.args.level c.loop-k.k cells _ _ _ _ one lt
+    (c.in-Err.ensures.walked base p.finds.now _ begins) in
     let a = met_finds rest _ _ _ _ _ _ _ _ 0 _ p.finds stops.aside in
     record {
       refuses = refuses_held _ _ _ _ _ _
@@ -226,97 +250,42 @@ gather-returns-in-Err-clause-walked g t c base rest cells b =
 
 pub gather-loop-k-preserved : goal.gather-loop-k-preserved
 gather-loop-k-preserved g t c =
+    let one : 1 ≤ c.args.level = omega arith in
+    let lt : c.loop-k.k < 8 = omega arith in
     let f : ℕ → ℕ = g.T.Task.mixed_in c.args.level c.args.task.now in
     let e : sum_below (c.loop-k.k + 1) f ≡ sum_below c.loop-k.k f + f c.loop-k.k =
     rw add-one (sum_below-suc c.loop-k.k f) in
-    let took = found_turns c.args.level (f c.loop-k.k) c.in-Ok.block _ _ _ _ c.in-Ok.ensures.took in
+    let low = octant_mixed g.T.Task.mixed (c.args.level - 1) (f c.loop-k.k) _ _ c.at-part.ensures
+    (c.of-octants.ensures.mixed c.loop-k.k lt) in
+    let took = found_turns (c.args.level - 1 + 1)
+    (g.T.Task.mixed (c.args.level - 1) c.at-part.result.now) c.in-Ok.block _ _ _ _
+    c.in-Ok.ensures.took in
     record {
-      turns = omega (arith, e, c.loop-k.invariant.turns, took.turns);
-      height_is = omega (arith, c.loop-k.invariant.height_is, took.height_is);
+      turns = omega (arith, e, c.loop-k.invariant.turns, took.turns, low);
+      height_is = omega (arith, c.loop-k.invariant.height_is, took.height_is, one);
       partway = λ base rest cells b.
           let p = c.loop-k.invariant.partway base rest cells b in
+          let begins = octant_begins g.T.Task.makes base rest _ c.args.level _ _ c.of-octants.result cells
+          _ _ c.loop-k.k _ c.of-octants.ensures.tasks c.at-part.ensures
+          (starts_held base rest _ _ b.starts) lt p in
           partway_one _ base rest _ _ cells _ _ _ _ c.loop-k.k c.in-Ok.block _ _
-          (omega arith) c.loop-k.invariant.long c.loop-k.invariant.wide p
-          (c.in-Ok.ensures.walked base rest cells p).found c.lay.ensures;
+          lt c.loop-k.invariant.long c.loop-k.invariant.wide p
+          (octant_found _ base p.finds.now c.args.level c.loop-k.k cells c.in-Ok.block _ _ one lt
+          (c.in-Ok.ensures.walked base p.finds.now _ begins)).found c.lay.ensures;
       grows = λ base rest cells b.
           let p = c.loop-k.invariant.partway base rest cells b in
+          let begins = octant_begins g.T.Task.makes base rest _ c.args.level _ _ c.of-octants.result cells
+          _ _ c.loop-k.k _ c.of-octants.ensures.tasks c.at-part.ensures
+          (starts_held base rest _ _ b.starts) lt p in
           grows_on _ _ _ _ (c.loop-k.invariant.grows base rest cells b)
-          (grows_in _ c.loop-k.k _ _ (c.in-Ok.ensures.walked base rest cells p).grows);
+          (grows_in _ c.loop-k.k _ _
+          (octant_found _ base p.finds.now c.args.level c.loop-k.k cells c.in-Ok.block _ _ one lt
+          (c.in-Ok.ensures.walked base p.finds.now _ begins)).grows);
       long = (laid_long c.in-Ok.block c.loop-k.k _ _ _ _ c.lay.ensures).children
           ∙ c.loop-k.invariant.long;
       wide = (laid_long c.in-Ok.block c.loop-k.k _ _ _ _ c.lay.ensures).standing
           ∙ c.loop-k.invariant.wide;
-      rests = g.met.N.Blocks.rests_on _ _ _ c.loop-k.invariant.rests c.octant.ensures.rests;
-    }
-
-pub octant-build-requires : goal.octant-build-requires
-octant-build-requires g t c κs within =
-    let (base, rest, cells, p) = c.requires.task in
-    let one : 1 ≤ c.args.level = omega arith in
-    let e = c.octant-part.ensures.seen in
-    let part =
-    c.octant-part.ensures.task base cells (part_keeps _ base rest _ _ _ _ _ _ _ p) p.made in
-    let at = octant_cells (c.args.level - 1) cells c.args.k in
-    let begins = part_begins _ base rest c.args.level _ _ cells at _ _ c.args.k _ _ _ _ e p part in
-    let low : c.args.level - 1 ≤ 10 = omega (arith, c.requires.level.0) in (
-      omega (arith, c.decreases),
-      (
-        within.0,
-        (
-          within.1.0,
-          (
-            within.1.1.0,
-            (
-              within.1.1.1,
-              (
-                (low, omega (arith, ap (λ (v : StoreState). v.plan.side) e, c.requires.level.1)),
-                (
-                  (base, p.finds.now, at, begins),
-                  omega (arith, ap (λ (v : StoreState). number_of_trees v.held) e, c.requires.room),
-                ),
-              ),
-            ),
-          ),
-        ),
-      ),
-    )
-
-pub octant-returns-in-Ok-clause-walked : goal.octant-returns-in-Ok-clause-walked
-octant-returns-in-Ok-clause-walked g t c base rest cells p =
-    let one : 1 ≤ c.args.level = omega arith in
-    let part =
-    c.octant-part.ensures.task base cells (part_keeps _ base rest _ _ _ _ _ _ _ p) p.made in
-    let at = octant_cells (c.args.level - 1) cells c.args.k in
-    let begins =
-    part_begins _ base rest c.args.level _ _ cells at _ _ c.args.k _ _ _ _ c.octant-part.ensures.seen p part in
-    let target = sym (octant_target c.args.level cells c.args.k one c.requires.octant) in
-    let walked = c.in-Ok.ensures.walked base p.finds.now at begins in
-    record {
-      found = target_found _ base p.finds.now _ _ _ _ _ target walked.found;
-      grows = target_grows _ _ _ _ _ target c.octant-part.ensures.seen walked.grows;
-    }
-
-pub octant-returns-in-Ok-clause-rests : goal.octant-returns-in-Ok-clause-rests
-octant-returns-in-Ok-clause-rests g t c =
-    g.met.N.Blocks.rests_on _ _ _ c.octant-part.ensures.rests c.in-Ok.ensures.rests
-
-pub octant-returns-in-Err-clause-rests : goal.octant-returns-in-Err-clause-rests
-octant-returns-in-Err-clause-rests g t c =
-    g.met.N.Blocks.rests_on _ _ _ c.octant-part.ensures.rests c.in-Err.ensures.rests
-
-pub octant-returns-in-Err-clause-walked : goal.octant-returns-in-Err-clause-walked
-octant-returns-in-Err-clause-walked g t c base rest cells p =
-    let one : 1 ≤ c.args.level = omega arith in
-    let part =
-    c.octant-part.ensures.task base cells (part_keeps _ base rest _ _ _ _ _ _ _ p) p.made in
-    let at = octant_cells (c.args.level - 1) cells c.args.k in
-    let begins =
-    part_begins _ base rest c.args.level _ _ cells at _ _ c.args.k _ _ _ _ c.octant-part.ensures.seen p part in
-    let target = sym (octant_target c.args.level cells c.args.k one c.requires.octant) in
-    let stops = c.in-Err.ensures.walked base p.finds.now at begins in
-    record {
-      refuses = target_refuses _ _ _ _ _ _ _ target c.octant-part.ensures.seen stops.refuses;
-      aside = stops.aside;
+      rests = g.met.N.Blocks.rests_on _ _ _ c.loop-k.invariant.rests c.build.ensures.rests;
     }
 
 pub gather-returns-clause-walked : goal.gather-returns-clause-walked

@@ -19,9 +19,6 @@ decreases-made g l = 5 * l.level + 2
 abbrev pub decreases-gather : goal.decreases-gather
 decreases-gather g l = 5 * l.level + 1
 
-abbrev pub decreases-octant : goal.decreases-octant
-decreases-octant g l = 5 * l.level
-
 abbrev pub invariant-gather-loop-k : goal.invariant-gather-loop-k
 invariant-gather-loop-k g l =
     let seen = g.N.Blocks.seen in
