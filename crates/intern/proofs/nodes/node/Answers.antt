@@ -130,8 +130,8 @@ returns-in-Free-clause-taken g c = λ row are.
     (named f.level f.bucket c.in-Free.slot) s met (same.1 ∙ e.bucket.0) none
     (published_other_key _ _ _ _ _ c.of-packed.ensures c.publish.ensures.published row there) (search rules) c.publish.ensures.name)
 
-pub returns-in-NoRoom-clause-taken : goal.returns-in-NoRoom-clause-taken
-returns-in-NoRoom-clause-taken g c = λ row are.
+pub returns-clause-taken : goal.returns-clause-taken
+returns-clause-taken g c = λ row are.
     (let v = c.args.pass.now.view in let t = c.turn-turn.result in let f = c.find.new.self in
     let u = f.pass.now.view in let a = full_other_key _ _ _ _ _ _ c.of-packed.ensures c.in-NoRoom.ensures.place in
     let e = c.turn-turn.ensures in

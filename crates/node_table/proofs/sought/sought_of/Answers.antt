@@ -8,6 +8,6 @@ pub returns-clause-sought : goal.returns-clause-sought
 returns-clause-sought c =
     let words = c.key.inside.words in
     let are = subst (λ (k : keys.Key). AreWordsOf k words) c.key.view_is c.key.invariant in record {
-  words = are;
-  tag = c.tag_of-tag.ensures.tag ∙ sought_tag c.args.level c.args.key.now words are;
-}
+      words = are;
+      tag = c.tag_of-tag.ensures.tag ∙ sought_tag c.args.level c.args.key.now words are;
+    }
