@@ -11,22 +11,24 @@ use Rattle.node_table.specs.Finding.{FindsPlace, HasKeyAt, HasNoRoom, IsFreeAt}
 use Rattle.node_table.specs.TableStates.{PassState}
 use Rattle.node_table.specs.declared.places.Place.{Place}
 
-pub found_other_key : (p : Layout) (s t : PassState) (key other : Key) (b : BucketAt) (place : Place)
-    → key ≡ other → FindsPlace p s t key b place → FindsPlace p s t other b place
+pub found_other_key : (p : Layout) (s t : PassState) (key other : Key) (b : BucketAt)
+    (place : Place) → key ≡ other → FindsPlace p s t key b place → FindsPlace p s t other b place
 found_other_key p s t key other b place e =
     subst (λ (k : Key). FindsPlace p s t k b place) e
 
-pub has_other_key : (p : Layout) (s t : PassState) (key other : Key) (b : BucketAt) (slot : ℕ)
+pub has_other_key : {p : Layout} {s t : PassState} {key other : Key} {b : BucketAt} {slot : ℕ}
     → key ≡ other → HasKeyAt p s t key b slot → HasKeyAt p s t other b slot
-has_other_key p s t key other b slot e = subst (λ (k : Key). HasKeyAt p s t k b slot) e
+has_other_key {p} {s} {t} {key} {other} {b} {slot} e =
+    subst (λ (k : Key). HasKeyAt p s t k b slot) e
 
-pub free_other_key : (p : Layout) (s t : PassState) (key other : Key) (b : BucketAt) (slot : ℕ)
+pub free_other_key : {p : Layout} {s t : PassState} {key other : Key} {b : BucketAt} {slot : ℕ}
     → key ≡ other → IsFreeAt p s t key b slot → IsFreeAt p s t other b slot
-free_other_key p s t key other b slot e = subst (λ (k : Key). IsFreeAt p s t k b slot) e
+free_other_key {p} {s} {t} {key} {other} {b} {slot} e =
+    subst (λ (k : Key). IsFreeAt p s t k b slot) e
 
-pub full_other_key : (p : Layout) (s t : PassState) (key other : Key) (b : BucketAt)
+pub full_other_key : {p : Layout} {s t : PassState} {key other : Key} {b : BucketAt}
     → key ≡ other → HasNoRoom p s t key b → HasNoRoom p s t other b
-full_other_key p s t key other b e = subst (λ (k : Key). HasNoRoom p s t k b) e
+full_other_key {p} {s} {t} {key} {other} {b} e = subst (λ (k : Key). HasNoRoom p s t k b) e
 
 pub published_other_key : (v w : SeatView) (n : Name) (key other : Key) → key ≡ other
     → ForChildren v.held (children_of_key key) (λ row. PublishesUnderTurn v n key row w)

@@ -45,7 +45,7 @@ raise-requires-clause-live g c =
     subst (λ (x : ℕ × ℕ). IsKnownLive v (named x.0 x.1 c.in-At.slot))
     (λ i. (sym same.1 i, sym same.2 i))
     (keyed (Leaf c.args.bits) (record { row = λ _. Gone; are_held = no_children v.held })
-    (has_other_key _ _ _ _ _ _ _ c.of-packed.ensures c.in-At.ensures.place).shows)
+    (has_other_key c.of-packed.ensures c.in-At.ensures.place).shows)
 
 pub publish-requires-clause-children : goal.publish-requires-clause-children
 publish-requires-clause-children g c =
@@ -55,7 +55,7 @@ publish-requires-clause-children g c =
 pub publish-requires-clause-may : goal.publish-requires-clause-may
 publish-requires-clause-may g c =
     let t =
-    c.turn-turn.result in let f = c.find.new.self in let same = c.find.ensures.same in let a = free_other_key _ _ _ _ _ _ _ c.of-packed.ensures c.in-Free.ensures.place in let bits = c.args.bits in let slot = c.in-Free.slot in
+    c.turn-turn.result in let f = c.find.new.self in let same = c.find.ensures.same in let a = free_other_key c.of-packed.ensures c.in-Free.ensures.place in let bits = c.args.bits in let slot = c.in-Free.slot in
     let e = c.turn-turn.ensures in
     let some : 0 < bits = (let n = c.requires.bits in omega arith) in
     let bucket : t.bucket ≡ leaf_bucket bits (buckets_at (t.table.now.plan) 0) =
@@ -115,7 +115,7 @@ returns-clause-taken g c =
     ∙ first in omega arith) in
     elim c.match-find.branch [
       | in-At w ↦ (
-          let a = has_other_key _ _ _ _ _ _ _ c.of-packed.ensures w.in-At.ensures.place in
+          let a = has_other_key c.of-packed.ensures w.in-At.ensures.place in
           let s =
           searched v t.pass.now f.pass.now bucket e.view
           (learns_keep t.pass.now f.pass.now a.learns) in
@@ -135,7 +135,7 @@ returns-clause-taken g c =
           (subst (λ (m : Name). InternsLeaf v bits m w.raise.new.self.1.0.view)
           (sym w.raise.ensures.name) came))
       | in-Free w ↦ (
-          let a = free_other_key _ _ _ _ _ _ _ c.of-packed.ensures w.in-Free.ensures.place in
+          let a = free_other_key c.of-packed.ensures w.in-Free.ensures.place in
           let s =
           searched v t.pass.now f.pass.now bucket e.view
           (learns_keep t.pass.now f.pass.now a.learns) in
@@ -152,7 +152,7 @@ returns-clause-taken g c =
           at_arm v bits c.match-find.result
           (Ok w.publish.result) c.match-find.pass.view w.publish.new.self.1.0.view now w.result-is (subst (λ (m : Name). InternsLeaf v bits m w.publish.new.self.1.0.view) (sym w.publish.ensures.name) came))
       | in-NoRoom w ↦ (
-          let a = full_other_key _ _ _ _ _ _ c.of-packed.ensures w.in-NoRoom.ensures.place in
+          let a = full_other_key c.of-packed.ensures w.in-NoRoom.ensures.place in
           let k =
           answers_keep (t.table.now.plan) t.pass.now f.pass.now (Leaf bits)
           (bucket_named t.level t.bucket) NoRoom
