@@ -1,9 +1,9 @@
 -- What an edit of a ball makes of a block, and bounds of the distances from it.
-use Rattle.std.proofs.Common.{◌≡◌, ℕ, ◌+◌, ◌-◌, ◌*◌, ◌<◌, ◌≤◌, Bool, true, false, Option, List, refl, subst, arith, max, []}
+use Rattle.std.proofs.Common.{◌≡◌, ℕ, ◌+◌, ◌-◌, ◌*◌, ◌<◌, ◌≤◌, Bool, true, false, Option, List, refl, subst, arith, []}
 use Rattle.std.specs.Prelude.{nat_le, if◌then◌else◌, ◌&&◌, ◌||◌, not}
 use Rattle.std.specs.Int.{abs_diff}
 use Rattle.std.proofs.lemmas.Bool.Decides.{nat_tests}
-use Rattle.std.proofs.Math.Nat.{mul-le-mul}
+use Rattle.std.proofs.Math.Nat.{mul-le-mul, mul-mul-mul_comm}
 use Rattle.vw_cell.specs.declared.cells.Cell.{Cell}
 use Rattle.vw_cell.specs.declared.balls.Ball.{Ball}
 use Rattle.vw_cell.specs.Counts.{cell_at}
@@ -20,25 +20,30 @@ use Rattle.edit_walk.proofs.OfCells.WorldPaints.{world_paints}
 use Rattle.history_model.specs.Worlds.{edited}
 use Rattle.edit_ops.specs.Balls.{MakesBall, ball_act}
 
-pub square_bound : (n : ℕ) → n ≤ 69631 → n * n ≤ 69631 * 69631
+pub square_bound : (n : ℕ) → n ≤ 139260 → n * n ≤ 139260 * 139260
 square_bound n h = mul-le-mul h h
 
-pub near_below : (centre at side d i : ℕ) → d ≡ max (at - centre) (centre - (at + side - 1))
-    → i < side → square d ≤ square (abs_diff centre (at + i))
-near_below centre at side d i e h =
-    let less : d ≤ abs_diff centre (at + i) = omega arith in mul-le-mul less less
+twice : (n : ℕ) → square (2 * n) ≡ 4 * square n
+twice n = mul-mul-mul_comm 2 n 2 n
 
-pub far_above : (centre at side d i : ℕ)
-    → d ≡ max (abs_diff centre at) (abs_diff centre (at + side - 1)) → i < side
-    → square (abs_diff centre (at + i)) ≤ square d
-far_above centre at side d i e h =
-    let less : abs_diff centre (at + i) ≤ d = omega arith in mul-le-mul less less
+-- r is twice the distance of the centre from the middle of the places
+pub near_below : (centre at side r d i : ℕ) → r ≡ abs_diff (2 * centre) (2 * at + side - 1)
+    → d ≡ r - (side - 1) → i < side → square d ≤ 4 * square (abs_diff centre (at + i))
+near_below centre at side r d i middle e h =
+    let less : d ≤ 2 * abs_diff centre (at + i) = omega arith in
+    subst (λ (m : ℕ). square d ≤ m) (twice (abs_diff centre (at + i))) (mul-le-mul less less)
 
-pub outside : (x y z a b c most : ℕ) → most < x + y + z → x ≤ a → y ≤ b → z ≤ c
+pub far_above : (centre at side r d i : ℕ) → r ≡ abs_diff (2 * centre) (2 * at + side - 1)
+    → d ≡ r + (side - 1) → i < side → 4 * square (abs_diff centre (at + i)) ≤ square d
+far_above centre at side r d i middle e h =
+    let less : 2 * abs_diff centre (at + i) ≤ d = omega arith in
+    subst (λ (m : ℕ). m ≤ square d) (twice (abs_diff centre (at + i))) (mul-le-mul less less)
+
+pub outside : (x y z a b c most : ℕ) → 4 * most < x + y + z → x ≤ 4 * a → y ≤ 4 * b → z ≤ 4 * c
     → nat_le (a + b + c) most ≡ false
 outside x y z a b c most out p q r = grind (arith, nat_tests)
 
-pub inside : (x y z a b c most : ℕ) → x + y + z ≤ most → a ≤ x → b ≤ y → c ≤ z
+pub inside : (x y z a b c most : ℕ) → x + y + z ≤ 4 * most → 4 * a ≤ x → 4 * b ≤ y → 4 * c ≤ z
     → nat_le (a + b + c) most ≡ true
 inside x y z a b c most within p q r = grind (arith, nat_tests)
 

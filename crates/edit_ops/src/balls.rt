@@ -119,6 +119,7 @@ fn place_of(level: u8, at: Cell) -> usize
 }
 
 // Whether the nearest place of the cube from `at` on lies outside the ball.
+#[inline(always)]
 #[tactic(auto, using(crate::proofs::BallLaws::outside))]
 pub(crate) fn is_outside(ball: Ball, at: Cell, side: u32) -> bool
     requires side { (1 ≤ side) × (side ≤ 4096) }
@@ -128,10 +129,11 @@ pub(crate) fn is_outside(ball: Ball, at: Cell, side: u32) -> bool
     let x = nearest(ball.centre.x, at.x, side);
     let y = nearest(ball.centre.y, at.y, side);
     let z = nearest(ball.centre.z, at.z, side);
-    squared(u32::from(ball.radius)) < x + y + z
+    4 * squared(u32::from(ball.radius)) < x + y + z
 }
 
 // Whether the farthest place of the cube from `at` on lies in the ball.
+#[inline(always)]
 #[tactic(auto, using(crate::proofs::BallLaws::inside))]
 pub(crate) fn is_inside(ball: Ball, at: Cell, side: u32) -> bool
     requires side { (1 ≤ side) × (side ≤ 4096) }
@@ -141,44 +143,52 @@ pub(crate) fn is_inside(ball: Ball, at: Cell, side: u32) -> bool
     let x = farthest(ball.centre.x, at.x, side);
     let y = farthest(ball.centre.y, at.y, side);
     let z = farthest(ball.centre.z, at.z, side);
-    x + y + z <= squared(u32::from(ball.radius))
+    x + y + z <= 4 * squared(u32::from(ball.radius))
 }
 
-// The greatest square of a distance on one axis.
-const FAR: u64 = 69631 * 69631;
+// The greatest square of twice a distance on one axis.
+const FAR: u64 = 139_260 * 139_260;
 
+#[inline(always)]
 #[tactic(auto, using(crate::proofs::BallLaws::square_bound))]
 fn squared(n: u32) -> u64
-    requires { n ≤ 69631 }
+    requires { n ≤ 139260 }
     ensures value { result ≡ square n }
     ensures bound { result ≤ FAR }
 {
     u64::from(n) * u64::from(n)
 }
 
-// No more than the square of any distance of the centre from the `side` places from `at` on.
+// Twice the distance of the centre from the middle of the `side` places from `at` on. What is
+// nearest and what is farthest follow from it alone.
+#[inline(always)]
+fn apart(centre: u16, at: u16, side: u32) -> u32
+    requires side { (1 ≤ side) × (side ≤ 4096) }
+    ensures apart { result ≡ abs_diff (2 * centre) (2 * at + side - 1) }
+    ensures bound { result ≤ 135165 }
+{
+    let centre = 2 * u32::from(centre);
+    let middle = 2 * u32::from(at) + side - 1;
+    centre.abs_diff(middle)
+}
+
+// No more than the square of twice any distance of the centre from the `side` places from `at` on.
+#[inline(always)]
 #[tactic(auto, using(crate::proofs::BallLaws::near_below))]
 fn nearest(centre: u16, at: u16, side: u32) -> u64
     requires side { (1 ≤ side) × (side ≤ 4096) }
-    ensures below { (i : ℕ) → i < side → result ≤ square (abs_diff centre (at + i)) }
+    ensures below { (i : ℕ) → i < side → result ≤ 4 * square (abs_diff centre (at + i)) }
     ensures bound { result ≤ FAR }
 {
-    let centre = u32::from(centre);
-    let at = u32::from(at);
-    squared(
-        at.saturating_sub(centre)
-            .max(centre.saturating_sub(at + side - 1)),
-    )
+    squared(apart(centre, at, side).saturating_sub(side - 1))
 }
 
-// No less than the square of any distance of the centre from the `side` places from `at` on.
-#[tactic(auto, using(crate::proofs::BallLaws::far_above))]
+// No less than the square of twice any distance of the centre from the `side` places from `at` on.
+#[inline(always)]
 fn farthest(centre: u16, at: u16, side: u32) -> u64
     requires side { (1 ≤ side) × (side ≤ 4096) }
-    ensures above { (i : ℕ) → i < side → square (abs_diff centre (at + i)) ≤ result }
+    ensures above { (i : ℕ) → i < side → 4 * square (abs_diff centre (at + i)) ≤ result }
     ensures bound { result ≤ FAR }
 {
-    let centre = u32::from(centre);
-    let at = u32::from(at);
-    squared(centre.abs_diff(at).max(centre.abs_diff(at + side - 1)))
+    squared(apart(centre, at, side) + (side - 1))
 }
