@@ -30,7 +30,8 @@ use Rattle.intern.proofs.leaf.Goals as goal
 
 pub find-requires-clause-held : goal.find-requires-clause-held
 find-requires-clause-held g c =
-    subst (λ (k : keys.Key). HoldsChildren c.turn-turn.result.pass.now.view.held (children_of_key k))
+    subst
+    (λ (k : keys.Key). HoldsChildren c.turn-turn.result.pass.now.view.held (children_of_key k))
     (sym c.of-packed.ensures) (record { row = λ _. Gone; are_held = no_children _ })
 
 pub turn-turn-requires-clause-there : goal.turn-turn-requires-clause-there
@@ -54,8 +55,9 @@ publish-requires-clause-children g c =
 
 pub publish-requires-clause-may : goal.publish-requires-clause-may
 publish-requires-clause-may g c =
-    let t =
-    c.turn-turn.result in let f = c.find.new.self in let same = c.find.ensures.same in let a = free_other_key c.of-packed.ensures c.in-Free.ensures.place in let bits = c.args.bits in let slot = c.in-Free.slot in
+    let t = c.turn-turn.result in let f = c.find.new.self in let same = c.find.ensures.same in
+    let a = free_other_key c.of-packed.ensures c.in-Free.ensures.place in
+    let bits = c.args.bits in let slot = c.in-Free.slot in
     let e = c.turn-turn.ensures in
     let some : 0 < bits = (let n = c.requires.bits in omega arith) in
     let bucket : t.bucket ≡ leaf_bucket bits (buckets_at (t.table.now.plan) 0) =
