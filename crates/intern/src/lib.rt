@@ -15,7 +15,7 @@ ghost use Rattle.node_words.specs.Plans.{IsPlan, buckets_at};
 ghost use Rattle.node_table.specs.TableStates.{BelongsTo};
 ghost use Rattle.intern.specs.Leaves.{InternsLeaf, LeafRefused};
 
-use node_table::{NodeTable, Pass, Place};
+use node_table::{NodeTable, PackedKey, Pass, Place};
 use node_words::{Full, Key, Share, Steps, bucket_of};
 pub use nodes::node;
 use std::sync::Wait;
@@ -41,10 +41,11 @@ pub fn leaf<R: Wait, L: Ledger>(
 {
     let key = Key::Leaf(bits);
     let bucket = bucket_of(&key, buckets(table, 0));
+    let packed = PackedKey::of(&key);
     let mut turn = table.turn(rt, pass, 0, bucket, steps);
-    let result = match turn.find(&key) {
+    let result = match turn.find(&packed) {
         Place::At(slot) => Ok(turn.raise(slot)),
-        Place::Free(slot) => Ok(turn.publish(slot, &key, no_children())),
+        Place::Free(slot) => Ok(turn.publish(slot, &packed, no_children())),
         Place::NoRoom => {
             turn.leave();
             Err(Full { level: 0, bucket })

@@ -7,7 +7,7 @@ ghost use Rattle.intern.specs.Nodes.{InternsNode, NodeIsRefused};
 
 use crate::buckets;
 use crate::giving::give_row;
-use node_table::{NodeTable, Pass, Place};
+use node_table::{NodeTable, PackedKey, Pass, Place};
 use node_words::{Full, Key, NodeRefused, Share, Steps, bucket_of, names_of};
 use std::sync::Wait;
 use std::sync::ledger::Ledger;
@@ -41,15 +41,16 @@ pub fn node<R: Wait, L: Ledger>(
     let names = names_of(&children);
     let key = Key::Node(names);
     let bucket = bucket_of(&key, buckets(table, level));
+    let packed = PackedKey::of(&key);
     let mut turn = table.turn(rt, pass, level, bucket, steps);
-    match turn.find(&key) {
+    match turn.find(&packed) {
         Place::At(slot) => {
             let share = turn.raise(slot);
             pass.tell();
             give_row(rt, table, pass, children, steps);
             Ok(share)
         }
-        Place::Free(slot) => Ok(turn.publish(slot, &key, children)),
+        Place::Free(slot) => Ok(turn.publish(slot, &packed, children)),
         Place::NoRoom => {
             turn.leave();
             let full = Full { level, bucket };

@@ -1,4 +1,4 @@
-// The words of a key that is sought, and its tag.
+// A key as words, and its tag.
 ghost use Rattle.std.specs.Prelude.{◌≡◌, ◌+◌, ◌*◌, ◌<◌, ◌≤◌, ◌^◌, slice_index};
 ghost use Rattle.core_laws.specs.places.WordIds.{key_words};
 ghost use Rattle.core_laws.specs.places.Words.{word_of_child};
@@ -7,6 +7,8 @@ ghost use Rattle.node_table.specs.Finding.{AreWordsOf, IsSought};
 
 use core_laws::{child_word, pair_word};
 use node_words::{Key, Name};
+use std::marker::Model;
+use std::snapshot::Snapshot;
 
 // By these the words of a key are mixed into one, of which the high bits are the tag.
 const FIRST: u64 = 0x9E37_79B9_7F4A_7C15;
@@ -16,6 +18,37 @@ const SECOND: u64 = 0xC2B2_AE3D_27D4_EB4F;
 const THIRD: u64 = 0x1656_67B1_9E37_79F9;
 
 const FOURTH: u64 = 0xD6E8_FEB8_6659_FD93;
+
+/// A key as the words of its entry, packed once for the search and for the entry that it may add.
+/// The key itself is for clauses alone.
+#[derive(Drop)]
+pub struct PackedKey {
+    words: [u64; 4],
+    key: Snapshot<Key>,
+}
+
+impl Model for PackedKey {
+    ghost use Rattle.node_words.specs.declared.keys.Key.{Key};
+    ghost use Rattle.node_table.specs.Finding.{AreWordsOf};
+
+    ghost Value = { Key };
+
+    ghost view = { λ p. p.key.value };
+
+    ghost invariant = { λ p. AreWordsOf p.key.value p.words };
+}
+
+impl PackedKey {
+    /// The words of the key.
+    #[inline(always)]
+    pub fn of(key: &Key) -> PackedKey
+        ensures { result ≡ key.now }
+    {
+        let words = words_of(key);
+        let key = Snapshot::of(key);
+        PackedKey { words, key }
+    }
+}
 
 // The words of a key, and the tag that the book of its entry has.
 #[derive(Clone, Copy)]
@@ -34,11 +67,11 @@ pub(crate) fn words_at(level: u8) -> u8
 
 // The key's words and tag.
 #[inline(always)]
-pub(crate) fn sought_of(level: u8, key: &Key) -> Sought
+pub(crate) fn sought_of(level: u8, key: &PackedKey) -> Sought
     ensures sought { IsSought level key.now result }
     ensures small { result.tag < 2 ^ 24 }
 {
-    let words = words_of(key);
+    let words = key.words;
     let tag = tag_of(level, &words);
     Sought { words, tag }
 }

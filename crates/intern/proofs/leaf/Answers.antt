@@ -5,7 +5,10 @@ use Rattle.node_words.specs.declared.shapes.names.Name.{Name}
 use Rattle.node_words.specs.shapes.Buckets.{leaf_bucket}
 use Rattle.node_words.specs.shapes.Tree.{Gone}
 use Rattle.node_words.specs.shapes.Weights.{number_of_trees}
+use Rattle.node_words.specs.declared.keys.Key as keys
 use Rattle.node_words.specs.declared.keys.Key.TheVariants.{Leaf}
+use Rattle.node_words.specs.Held.{HoldsChildren}
+use Rattle.table_rule.specs.Changes.{children_of_key}
 use Rattle.node_words.specs.declared.shares.Full.{Full}
 use Rattle.node_words.specs.Plans.{Layout}
 use Rattle.node_table.specs.Names.{named}
@@ -14,7 +17,7 @@ use Rattle.node_table.specs.ViewFacts.{ViewFacts}
 use Rattle.node_table.specs.Views.{SeatView}
 use Rattle.node_table.specs.Changes.{HasKeyWords, PassesBelow}
 use Rattle.node_table.specs.declared.places.Place.TheVariants.{NoRoom}
-use Rattle.node_table.specs.Acts.{MayAdd}
+use Rattle.node_table.specs.Acts.{AreChildrenOf, MayAdd}
 use Rattle.node_table.specs.Learning.{IsKnownLive}
 use Rattle.node_table.specs.Learning.IsKnownLive.{keyed}
 use Rattle.node_table.specs.TableStates.{TableState, bucket_named}
@@ -22,10 +25,14 @@ use Rattle.node_table.proofs.Answering.{answers_keep, learns_keep}
 use Rattle.intern.specs.Leaves.{InternsLeaf, LeafRefused}
 use Rattle.intern.proofs.LeafLaws.{no_children, searched, may_leaf, shared, added, refused, absent, kept_plan, met_leaf, leaf_sought, leaf_children}
 use Rattle.intern.proofs.leaf.Goals.{in-At, in-Free, in-NoRoom}
+use Rattle.intern.proofs.PackedKeys.{found_other_key, has_other_key, free_other_key, full_other_key, published_other_key}
 use Rattle.intern.proofs.leaf.Goals as goal
 
 pub find-requires-clause-held : goal.find-requires-clause-held
-find-requires-clause-held g c = record { row = λ _. Gone; are_held = no_children _ }
+find-requires-clause-held g c =
+    subst
+    (λ (k : keys.Key). HoldsChildren c.turn-turn.result.pass.now.view.held (children_of_key k))
+    (sym c.of-packed.ensures) (record { row = λ _. Gone; are_held = no_children _ })
 
 pub turn-turn-requires-clause-there : goal.turn-turn-requires-clause-there
 turn-turn-requires-clause-there g c =
@@ -39,15 +46,18 @@ raise-requires-clause-live g c =
     subst (λ (x : ℕ × ℕ). IsKnownLive v (named x.0 x.1 c.in-At.slot))
     (λ i. (sym same.1 i, sym same.2 i))
     (keyed (Leaf c.args.bits) (record { row = λ _. Gone; are_held = no_children v.held })
-    c.in-At.ensures.place.shows)
+    (has_other_key c.of-packed.ensures c.in-At.ensures.place).shows)
 
 pub publish-requires-clause-children : goal.publish-requires-clause-children
-publish-requires-clause-children g c = leaf_children _ c.args.bits c.no_children.ensures
+publish-requires-clause-children g c =
+    subst (λ (k : keys.Key). AreChildrenOf c.no_children.result k) (sym c.of-packed.ensures)
+    (leaf_children _ c.args.bits c.no_children.ensures)
 
 pub publish-requires-clause-may : goal.publish-requires-clause-may
 publish-requires-clause-may g c =
-    let t =
-    c.turn-turn.result in let f = c.find.new.self in let same = c.find.ensures.same in let a = c.in-Free.ensures.place in let bits = c.args.bits in let slot = c.in-Free.slot in
+    let t = c.turn-turn.result in let f = c.find.new.self in let same = c.find.ensures.same in
+    let a = free_other_key c.of-packed.ensures c.in-Free.ensures.place in
+    let bits = c.args.bits in let slot = c.in-Free.slot in
     let e = c.turn-turn.ensures in
     let some : 0 < bits = (let n = c.requires.bits in omega arith) in
     let bucket : t.bucket ≡ leaf_bucket bits (buckets_at (t.table.now.plan) 0) =
@@ -62,8 +72,9 @@ publish-requires-clause-may g c =
     let base : MayAdd (t.table.now.plan) f.pass.now.view (named t.level t.bucket slot) (Leaf bits) =
     may_leaf (t.table.now.plan) f.pass.now.view t.level t.bucket bits slot e.bucket.0 some
     (let f = c.ranges.bits.fits in omega (arith, f)) bucket a.first a.none room in
-    subst (λ (x : TableState × ℕ × ℕ). MayAdd x.0.plan f.pass.now.view (named x.1 x.2 slot)
-    (Leaf bits)) (λ i. (sym same.0 i, sym same.1 i, sym same.2 i)) base
+    subst (λ (x : TableState × ℕ × ℕ × keys.Key). MayAdd x.0.plan f.pass.now.view
+    (named x.1 x.2 slot) x.3)
+    (λ i. (sym same.0 i, sym same.1 i, sym same.2 i, sym c.of-packed.ensures i)) base
 
 -- after one arm of the match, where the pass is as the arm left it and the result is what it gave
 at_arm : (v : SeatView) (bits : ℕ) (m r : Result Name Full) (w u : SeatView) → w ≡ u → m ≡ r
@@ -82,7 +93,8 @@ returns-clause-taken g c =
     let plan : u.plan ≡ t.table.now.plan =
     kept_plan t.pass.now f.pass.now (Leaf bits) (bucket_named t.level t.bucket)
     (t.table.now.plan) c.find.result
-    (record { row = λ _. Gone; are_held = no_children _ }) c.find.ensures.place
+    (record { row = λ _. Gone; are_held = no_children _ })
+    (found_other_key _ _ _ _ _ _ _ c.of-packed.ensures c.find.ensures.place)
     ∙ ap (λ (x : SeatView). x.plan) e.view ∙ c.requires.of.plan
     ∙ ap (λ (x : TableState). x.plan) (sym e.table) in
     let is : bucket ≡ leaf_bucket bits (slice_index u.plan.buckets 0) =
@@ -105,7 +117,7 @@ returns-clause-taken g c =
     ∙ first in omega arith) in
     elim c.match-find.branch [
       | in-At w ↦ (
-          let a = w.in-At.ensures.place in
+          let a = has_other_key c.of-packed.ensures w.in-At.ensures.place in
           let s =
           searched v t.pass.now f.pass.now bucket e.view
           (learns_keep t.pass.now f.pass.now a.learns) in
@@ -125,7 +137,7 @@ returns-clause-taken g c =
           (subst (λ (m : Name). InternsLeaf v bits m w.raise.new.self.1.0.view)
           (sym w.raise.ensures.name) came))
       | in-Free w ↦ (
-          let a = w.in-Free.ensures.place in
+          let a = free_other_key c.of-packed.ensures w.in-Free.ensures.place in
           let s =
           searched v t.pass.now f.pass.now bucket e.view
           (learns_keep t.pass.now f.pass.now a.learns) in
@@ -137,11 +149,12 @@ returns-clause-taken g c =
           let none = absent u bits bucket c.find.ensures.tells s.turn is (here u.words a.none) in
           let came =
           added v u w.publish.new.self.1.0.view bits bucket n s met level none
-          (w.publish.ensures.published (λ _. Gone) (no_children _)) in
+          (published_other_key _ _ _ _ _ c.of-packed.ensures w.publish.ensures.published (λ _. Gone)
+          (no_children _)) in
           at_arm v bits c.match-find.result
           (Ok w.publish.result) c.match-find.pass.view w.publish.new.self.1.0.view now w.result-is (subst (λ (m : Name). InternsLeaf v bits m w.publish.new.self.1.0.view) (sym w.publish.ensures.name) came))
       | in-NoRoom w ↦ (
-          let a = w.in-NoRoom.ensures.place in
+          let a = full_other_key c.of-packed.ensures w.in-NoRoom.ensures.place in
           let k =
           answers_keep (t.table.now.plan) t.pass.now f.pass.now (Leaf bits)
           (bucket_named t.level t.bucket) NoRoom

@@ -16,6 +16,7 @@ use Rattle.node_table.specs.Learning.IsKnownLive.{keyed}
 use Rattle.node_table.specs.TableStates.{bucket_named}
 use Rattle.node_table.specs.declared.places.Place.TheVariants.{NoRoom}
 use Rattle.intern.proofs.NodeLaws.{asks, node_searched, kept_now, room_now, shared_now, added_now, refused_now, absent, met_node, node_sought, is_bucket, low_bucket, passes_here}
+use Rattle.intern.proofs.PackedKeys.{has_other_key, free_other_key, full_other_key, published_other_key}
 use Rattle.intern.proofs.nodes.node.Goals as goal
 
 pub buckets-requires : goal.buckets-requires
@@ -24,7 +25,8 @@ buckets-requires g c =
 
 pub raise-share-requires-clause-live : goal.raise-share-requires-clause-live
 raise-share-requires-clause-live g c =
-    let f = c.find.new.self in let a = c.in-At.ensures.place in let same = c.find.ensures.same in
+    let f = c.find.new.self in let same = c.find.ensures.same in
+    let a = has_other_key c.of-packed.ensures c.in-At.ensures.place in
     let names = c.names_of-names.result in
     let held : f.pass.now.view.held ≡ c.args.pass.now.view.held =
     ap (λ (x : SeatView). x.held) a.learns.else_is
@@ -39,7 +41,8 @@ raise-share-requires-clause-live g c =
 pub give_row-requires-clause-held : goal.give_row-requires-clause-held
 give_row-requires-clause-held g c =
     let v = c.args.pass.now.view in let t = c.turn-turn.result in let f = c.find.new.self in
-    let u = f.pass.now.view in let a = c.in-At.ensures.place in let same = c.find.ensures.same in
+    let u = f.pass.now.view in let same = c.find.ensures.same in
+    let a = has_other_key c.of-packed.ensures c.in-At.ensures.place in
     let e = c.turn-turn.ensures in let h = c.requires.held in
     let names = c.names_of-names.result in let level = c.args.level in
     let bucket : ℕ = c.bucket_of-bucket.result in
@@ -60,7 +63,8 @@ give_row-requires-clause-held g c =
 pub give_row-requires-clause-room : goal.give_row-requires-clause-room
 give_row-requires-clause-room g c =
     let v = c.args.pass.now.view in let t = c.turn-turn.result in let f = c.find.new.self in
-    let u = f.pass.now.view in let a = c.in-At.ensures.place in let same = c.find.ensures.same in
+    let u = f.pass.now.view in let same = c.find.ensures.same in
+    let a = has_other_key c.of-packed.ensures c.in-At.ensures.place in
     let e = c.turn-turn.ensures in let h = c.requires.held in
     let names = c.names_of-names.result in let level = c.args.level in
     let bucket : ℕ = c.bucket_of-bucket.result in
@@ -81,7 +85,8 @@ give_row-requires-clause-room g c =
 pub returns-in-At-clause-taken : goal.returns-in-At-clause-taken
 returns-in-At-clause-taken g c = λ row are.
     (let v = c.args.pass.now.view in let t = c.turn-turn.result in let f = c.find.new.self in
-    let u = f.pass.now.view in let a = c.in-At.ensures.place in let same = c.find.ensures.same in
+    let u = f.pass.now.view in let same = c.find.ensures.same in
+    let a = has_other_key c.of-packed.ensures c.in-At.ensures.place in
     let e = c.turn-turn.ensures in
     let names = c.names_of-names.result in let level = c.args.level in
     let bucket : ℕ = c.bucket_of-bucket.result in
@@ -105,7 +110,8 @@ returns-in-At-clause-taken g c = λ row are.
 pub returns-in-Free-clause-taken : goal.returns-in-Free-clause-taken
 returns-in-Free-clause-taken g c = λ row are.
     (let v = c.args.pass.now.view in let t = c.turn-turn.result in let f = c.find.new.self in
-    let u = f.pass.now.view in let a = c.in-Free.ensures.place in let same = c.find.ensures.same in
+    let u = f.pass.now.view in let same = c.find.ensures.same in
+    let a = free_other_key c.of-packed.ensures c.in-Free.ensures.place in
     let e = c.turn-turn.ensures in
     let names = c.names_of-names.result in let level = c.args.level in
     let bucket : ℕ = c.bucket_of-bucket.result in
@@ -127,12 +133,14 @@ returns-in-Free-clause-taken g c = λ row are.
     subst (λ ts. AreHeld ts names row) (sym s.held) q.are in
     added_now v u c.publish.new.self.1.0.view _ level bucket names row c.publish.result
     (named f.level f.bucket c.in-Free.slot) s met (same.1 ∙ e.bucket.0) none
-    (c.publish.ensures.published row there) (search rules) c.publish.ensures.name)
+    (published_other_key _ _ _ _ _ c.of-packed.ensures c.publish.ensures.published row there)
+    (search rules) c.publish.ensures.name)
 
-pub returns-in-NoRoom-clause-taken : goal.returns-in-NoRoom-clause-taken
-returns-in-NoRoom-clause-taken g c = λ row are.
+pub returns-clause-taken : goal.returns-clause-taken
+returns-clause-taken g c = λ row are.
     (let v = c.args.pass.now.view in let t = c.turn-turn.result in let f = c.find.new.self in
-    let u = f.pass.now.view in let a = c.in-NoRoom.ensures.place in
+    let u = f.pass.now.view in
+    let a = full_other_key c.of-packed.ensures c.in-NoRoom.ensures.place in
     let e = c.turn-turn.ensures in
     let names = c.names_of-names.result in let level = c.args.level in
     let bucket : ℕ = c.bucket_of-bucket.result in
