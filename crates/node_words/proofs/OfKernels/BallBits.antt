@@ -147,7 +147,7 @@ no_row x rest reach h =
 within_left : (n rest reach : ℕ) → rest ≤ reach → leb n (reach - rest) ≡ nat_le (n + rest) reach
 within_left n rest reach h = grind (arith, nat_tests)
 
-set_when : (b : Bool) → (cond b 1 0 == 1) ≡ b
+pub set_when : (b : Bool) → (cond b 1 0 == 1) ≡ b
 set_when true = refl
 set_when false = refl
 

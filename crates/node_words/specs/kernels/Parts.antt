@@ -32,15 +32,37 @@ pub record AreSmall (squares : List ℕ) : Type 0 where
   pub four : length squares ≡ 4
   pub each : (i : ℕ) → i < 4 → slice_index squares i ≤ 65538 * 65538
 
--- no more than the greatest square of a distance of places below 2^15
-pub record AreNear (squares : List ℕ) : Type 0 where
-  pub four : length squares ≡ 4
-  pub each : (i : ℕ) → i < 4 → slice_index squares i ≤ 32770 * 32770
+-- on one axis the corner is less than 2,048 above the centre, and no more than that below it
+pub record IsNear (centre at : ℕ) : Type 0 where
+  pub below : centre ≤ at + 2048
+  pub above : at < centre + 2048
 
--- the centre and the block are at places below 2^15
 pub record IsNearBall (ball : Ball) (block : Block) : Type 0 where
-  pub centre : (ball.centre.x < 32768) × (ball.centre.y < 32768) × (ball.centre.z < 32768)
-  pub at : (block.at.x < 32768) × (block.at.y < 32768) × (block.at.z < 32768)
+  pub x : IsNear ball.centre.x block.at.x
+  pub y : IsNear ball.centre.y block.at.y
+  pub z : IsNear ball.centre.z block.at.z
+
+-- sixteen numbers of 16 bits, none of which is 0
+pub record AreLanes (lanes : List ℕ) : Type 0 where
+  pub sixteen : length lanes ≡ 16
+  pub some : (i : ℕ) → i < 16 → 1 ≤ slice_index lanes i
+  pub fit : (i : ℕ) → i < 16 → slice_index lanes i ≤ 65535
+
+-- what the square of x grows by where x does by i
+abbrev pub growth : ℕ → ℕ → ℕ
+growth x i = 2 * (x * i) + i * i
+
+-- for each cell of a layer what the squares of x and y grow by, moved up by as much as keeps it
+-- above 0
+pub record AreSums (lanes : List ℕ) (x y : ℕ) : Type 0 where
+  pub small : AreLanes lanes
+  pub each : (i j : ℕ) → i < 4 → j < 4
+      → slice_index lanes (i + 4 * j) + 4096 * (i + j) ≡ 24577 + growth x i + growth y j
+
+-- the bits set are those of the lanes that come with `less` to no more than `most`
+pub record LanesShow (bits : ℕ) (lanes : List ℕ) (less most : ℕ) : Type 0 where
+  pub each : (i : ℕ) → i < 16
+      → (bit_at bits i == 1) ≡ nat_le (slice_index lanes i + less) most
 
 -- the squares of the distances of the centre from the four places from `at` on
 pub record SquaresFrom (squares : List ℕ) (centre at : ℕ) : Type 0 where

@@ -1,127 +1,112 @@
 ghost use Rattle.std.specs.Prelude.{◌≡◌, ℕ, ◌+◌, ◌*◌, ◌^◌, ◌<◌, ◌≤◌, IsTrue};
-ghost use Rattle.std.specs.Int.{abs_diff};
 ghost use Rattle.node_words.specs.Places.{is_in_ball, square};
 ghost use Rattle.node_words.specs.kernels.Leaves.{LeafShows};
-ghost use Rattle.node_words.specs.kernels.Parts.{AreNear, IsNearBall, SquaresFrom, SumsShow, LayerShows, RowShows};
+ghost use Rattle.node_words.specs.kernels.Parts.{IsNear, IsNearBall, AreLanes, AreSums, LanesShow};
 
 use crate::kernels::balls::four;
 use crate::shapes::{Ball, Block};
 use std::simd::prelude::*;
 
-// Whether squares of distances come together to no more than 32 bits.
+// What each axis is moved up by, so that no number here is below 0.
+const UP: u32 = 2048;
+
+// Whether the block's corner is so near to the centre that sums of a layer fit 16 bits.
 #[inline(always)]
 pub(crate) fn is_near(ball: Ball, block: Block) -> bool
     ensures { IsTrue result → IsNearBall ball block }
 {
-    ball.centre.x < 32768
-        && ball.centre.y < 32768
-        && ball.centre.z < 32768
-        && block.at.x < 32768
-        && block.at.y < 32768
-        && block.at.z < 32768
+    is_close(ball.centre.x, block.at.x)
+        && is_close(ball.centre.y, block.at.y)
+        && is_close(ball.centre.z, block.at.z)
+}
+
+#[inline(always)]
+fn is_close(centre: u16, at: u16) -> bool
+    ensures { IsTrue result → IsNear centre at }
+{
+    let centre = u32::from(centre);
+    let at = u32::from(at) + UP;
+    at.wrapping_sub(centre) < 2 * UP
 }
 
 // Which cells of the leaf's block are in a ball that is near.
+//
+// With x, y, z as `moved` has them, a cell's squared distance is that of the block's corner and as
+// much more as its place on each axis makes, which is linear in x, y and z.
 #[inline(always)]
-#[tactic(auto, using(crate::proofs::OfKernels::BallBits::ball_shows))]
+#[tactic(auto, using(crate::proofs::OfKernels::NearBits::near_shows))]
 pub(crate) fn near_bits(ball: Ball, block: Block) -> u64
     requires near { IsNearBall ball block }
     requires level { block.level ≡ 0 }
     ensures bits { LeafShows result block (is_in_ball ball) }
     ensures bound { result < 2 ^ 64 }
 {
-    let reach = reach_of(ball.radius);
-    let x = squares(ball.centre.x, block.at.x);
-    let y = squares(ball.centre.y, block.at.y);
-    let z = squares(ball.centre.z, block.at.z);
-    edge_bits(x, y, z, reach)
-}
-
-// The greatest square of a distance on one axis.
-const FAR: u32 = 32770 * 32770;
-
-#[inline]
-#[tactic(auto, using(crate::proofs::OfKernels::NearBits::reach_bound))]
-fn reach_of(radius: u16) -> u32
-    ensures { result ≡ square radius }
-{
-    u32::from(radius) * u32::from(radius)
-}
-
-#[inline]
-#[tactic(auto, using(crate::proofs::OfKernels::NearBits::near_bound))]
-fn squared(n: u32) -> u32
-    requires { n ≤ 32770 }
-    ensures value { result ≡ square n }
-    ensures bound { result ≤ FAR }
-{
-    n * n
-}
-
-// The squares of the distances of the centre from the four places from `at` on.
-#[inline]
-#[tactic(auto, using(crate::proofs::OfKernels::NearBits::near_squares_from, crate::proofs::OfKernels::NearBits::near_four))]
-fn squares(centre: u16, at: u16) -> [u32; 4]
-    requires near { (centre < 32768) × (at < 32768) }
-    ensures squares { SquaresFrom result centre at }
-    ensures near { AreNear result }
-{
-    let centre = u32::from(centre);
-    let at = u32::from(at);
-    [
-        squared(centre.abs_diff(at)),
-        squared(centre.abs_diff(at + 1)),
-        squared(centre.abs_diff(at + 2)),
-        squared(centre.abs_diff(at + 3)),
-    ]
-}
-
-// The cells whose three squares come to no more than the reach.
-#[inline]
-#[tactic(auto, using(crate::proofs::OfKernels::BallBits::sums_show))]
-fn edge_bits(x: [u32; 4], y: [u32; 4], z: [u32; 4], reach: u32) -> u64
-    requires x { AreNear x }
-    requires y { AreNear y }
-    requires z { AreNear z }
-    ensures { SumsShow result x y z reach }
-{
-    let a = layer(x, y, z[0], reach);
-    let b = layer(x, y, z[1], reach);
-    let c = layer(x, y, z[2], reach);
-    let d = layer(x, y, z[3], reach);
+    let x = moved(ball.centre.x, block.at.x);
+    let y = moved(ball.centre.y, block.at.y);
+    let z = moved(ball.centre.z, block.at.z);
+    let most = squared(u32::from(ball.radius)) + u64::from(24577 + 2 * UP * (x + y + z));
+    let less = squared(x) + squared(y) + squared(z) + 3 * squared(UP);
+    let lanes = sums(x, y);
+    let z = 2 * u64::from(z);
+    let a = layer(lanes, less, most);
+    let b = layer(lanes, less + z + 1, most + 4096);
+    let c = layer(lanes, less + 2 * z + 4, most + 8192);
+    let d = layer(lanes, less + 3 * z + 9, most + 12288);
     four(a, b, c, d, 16)
 }
 
-// Those of one layer, of this square on the third axis.
-#[inline]
-#[tactic(auto, using(crate::proofs::OfKernels::BallBits::layer_shows))]
-fn layer(x: [u32; 4], y: [u32; 4], rest: u32, reach: u32) -> u64
-    requires x { AreNear x }
-    requires y { AreNear y }
-    requires rest { rest ≤ FAR }
-    ensures bits { LayerShows result x y rest reach }
-    ensures bound { result < 2 ^ 16 }
+#[inline(always)]
+#[tactic(auto, using(crate::proofs::OfKernels::NearBits::square_fits))]
+fn squared(n: u32) -> u64
+    requires { n ≤ 65535 }
+    ensures value { result ≡ square n }
+    ensures bound { result ≤ 65535 * 65535 }
 {
-    let a = row(x, y[0] + rest, reach);
-    let b = row(x, y[1] + rest, reach);
-    let c = row(x, y[2] + rest, reach);
-    let d = row(x, y[3] + rest, reach);
-    four(a, b, c, d, 4)
+    u64::from(n) * u64::from(n)
 }
 
-// Those of one row, of these squares on the other axes: four tests at once.
-#[inline]
-#[tactic(auto, using(crate::proofs::OfKernels::BallBits::no_row))]
-fn row(x: [u32; 4], rest: u32, reach: u32) -> u64
-    requires x { AreNear x }
-    requires rest { rest ≤ 2 * FAR }
-    ensures bits { RowShows result x rest reach }
-    ensures bound { result < 2 ^ 4 }
+// How far the corner is above the centre on one axis, moved up.
+#[inline(always)]
+fn moved(centre: u16, at: u16) -> u32
+    requires near { IsNear centre at }
+    ensures value { result + centre ≡ at + 2048 }
+    ensures bound { result < 4096 }
 {
-    if reach < rest {
-        return 0;
-    }
-    u32x4::from_array(x)
-        .simd_le(u32x4::splat(reach - rest))
-        .to_bitmask()
+    u32::from(at) + UP - u32::from(centre)
+}
+
+// Twice a cell's place in its layer on each axis.
+const ALONG_X: [u16; 16] = [0, 2, 4, 6, 0, 2, 4, 6, 0, 2, 4, 6, 0, 2, 4, 6];
+
+const ALONG_Y: [u16; 16] = [0, 0, 0, 0, 2, 2, 2, 2, 4, 4, 4, 4, 6, 6, 6, 6];
+
+// For the cell at (i, j): 24577 + i * i + j * j - 4096 * (i + j).
+const MOVES: [u16; 16] = [
+    24577, 20482, 16389, 12298, 20482, 16387, 12294, 8203, 16389, 12294, 8201, 4110, 12298, 8203,
+    4110, 19,
+];
+
+// What the squared distance of each cell of a layer has more than that of the layer's corner, moved
+// up.
+#[inline(always)]
+#[tactic(auto, using(crate::proofs::OfKernels::NearBits::sums_are))]
+fn sums(x: u32, y: u32) -> u16x16
+    requires x { x < 4096 }
+    requires y { y < 4096 }
+    ensures { AreSums result x y }
+{
+    let along_x = u16x16::splat(x as u16) * u16x16::from_array(ALONG_X);
+    let along_y = u16x16::splat(y as u16) * u16x16::from_array(ALONG_Y);
+    along_x + along_y + u16x16::from_array(MOVES)
+}
+
+// The cells of one layer whose sums come with `less` to no more than `most`: sixteen tests at once.
+#[inline(always)]
+fn layer(lanes: u16x16, less: u64, most: u64) -> u64
+    requires lanes { AreLanes lanes }
+    ensures bits { LanesShow result lanes less most }
+    ensures bound { result < 2 ^ 16 }
+{
+    let left = most.saturating_sub(less).min(65535);
+    lanes.simd_le(u16x16::splat(left as u16)).to_bitmask()
 }
