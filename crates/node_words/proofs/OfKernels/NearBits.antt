@@ -187,16 +187,16 @@ told sx sy sz xx yy zz gx gy gz x y z i j k n less most reach q p ex ey ez en el
     grind (arith, nat_tests)
 
 pub near_shows : (ball : Ball) (block : Block) (bits a b c d : ℕ) (lanes : List ℕ)
-    (x y z less most twice : ℕ) → FourBeside bits a b c d 16
-    → LanesShow a lanes less most → LanesShow b lanes (less + twice + 1) (most + 4096)
-    → LanesShow c lanes (less + 2 * twice + 4) (most + 8192)
-    → LanesShow d lanes (less + 3 * twice + 9) (most + 12288) → AreSums lanes x y
+    (x y z less most zz : ℕ) → FourBeside bits a b c d 16
+    → LanesShow a lanes less most → LanesShow b lanes (less + zz + 1) (most + 4096)
+    → LanesShow c lanes (less + 2 * zz + 4) (most + 8192)
+    → LanesShow d lanes (less + 3 * zz + 9) (most + 12288) → AreSums lanes x y
     → x + ball.centre.x ≡ block.at.x + 2048 → y + ball.centre.y ≡ block.at.y + 2048
-    → z + ball.centre.z ≡ block.at.z + 2048 → twice ≡ 2 * z
+    → z + ball.centre.z ≡ block.at.z + 2048 → zz ≡ 2 * z
     → less ≡ square x + square y + square z + 3 * (2048 * 2048)
     → most ≡ square ball.radius + (24577 + 4096 * (x + y + z))
     → LeafShows bits block (is_in_ball ball)
-near_shows ball block bits a b c d lanes x y z less most twice parts la lb lc ld sums ex ey ez et el em
+near_shows ball block bits a b c d lanes x y z less most zz four la lb lc ld sums ex ey ez et el em
     = record { each = λ i j k p q h. each i j k p q h }
   where
     test : (i j k l m : ℕ) → i < 4 → j < 4 → l ≡ less + growth z k → m ≡ most + 4096 * k
@@ -210,22 +210,22 @@ near_shows ball block bits a b c d lanes x y z less most twice parts la lb lc ld
         (square (abs_diff ball.centre.z (block.at.z + k))) (square x) (square y) (square z)
         (growth x i) (growth y j) (growth z k) x y z i j k (slice_index lanes (i + 4 * j)) less most
         (square ball.radius) l m (squared_from ball.centre.x block.at.x x i ex)
-        (squared_from ball.centre.y block.at.y y j ey) (squared_from ball.centre.z block.at.z z k ez)
-        (sums.each i j p q) el em e f
+        (squared_from ball.centre.y block.at.y y j ey)
+        (squared_from ball.centre.z block.at.z z k ez) (sums.each i j p q) el em e f
 
     each : (i j k : ℕ) → i < 4 → j < 4 → k < 4
         → (bit_at bits (bit_number i j k) == 1) ≡ nat_le
         (square (abs_diff ball.centre.x (block.at.x + i)) + square
         (abs_diff ball.centre.y (block.at.y + j)) + square
         (abs_diff ball.centre.z (block.at.z + k))) (square ball.radius)
-    each i j zero p q h = ap (λ (n : ℕ). n == 1) (parts.each 0 (i + 4 * j) h (omega arith))
+    each i j zero p q h = ap (λ (n : ℕ). n == 1) (four.each 0 (i + 4 * j) h (omega arith))
         ∙ la.each (i + 4 * j) (omega arith) ∙ test i j 0 less most p q (omega arith) (omega arith)
-    each i j (suc zero) p q h = ap (λ (n : ℕ). n == 1) (parts.each 1 (i + 4 * j) h (omega arith))
+    each i j (suc zero) p q h = ap (λ (n : ℕ). n == 1) (four.each 1 (i + 4 * j) h (omega arith))
         ∙ lb.each (i + 4 * j) (omega arith) ∙ test i j 1 _ _ p q (omega arith) (omega arith)
     each i j (suc (suc zero)) p q h = ap (λ (n : ℕ). n == 1)
-        (parts.each 2 (i + 4 * j) h (omega arith)) ∙ lc.each (i + 4 * j) (omega arith)
+        (four.each 2 (i + 4 * j) h (omega arith)) ∙ lc.each (i + 4 * j) (omega arith)
         ∙ test i j 2 _ _ p q (omega arith) (omega arith)
     each i j (suc (suc (suc zero))) p q h = ap (λ (n : ℕ). n == 1)
-        (parts.each 3 (i + 4 * j) h (omega arith)) ∙ ld.each (i + 4 * j) (omega arith)
+        (four.each 3 (i + 4 * j) h (omega arith)) ∙ ld.each (i + 4 * j) (omega arith)
         ∙ test i j 3 _ _ p q (omega arith) (omega arith)
     each i j (suc (suc (suc (suc k)))) p q h = absurd (omega arith)
