@@ -218,10 +218,10 @@ module _ (c : Bool) (side cap keep : ℕ) (bytes : List ℕ) (before told : CSce
   pub opens_scene : (old new : Option CWorld) (w : CWorld) → old ≡ None → new ≡ Some w
       → IsSceneOpen c side cap keep bytes w → told ≡ stands_told w
       → OpensScene c side cap keep bytes before told old 0 new
-  opens_scene old new w was now open tells =
+  opens_scene old new w was now stands tells =
       subst (λ (o : Option CWorld). OpensScene c side cap keep bytes before told o 0 new) (sym was)
       (subst (λ (n : Option CWorld). OpensScene c side cap keep bytes before told None 0 n)
-      (sym now) (OpensScene.opened w open tells))
+      (sym now) (OpensScene.opened w stands tells))
 
   pub opens_no_scene : (old new : Option CWorld) (status : ℕ) → old ≡ None → new ≡ None
       → RefusesToOpen c side cap bytes before told status
