@@ -3,7 +3,8 @@ use Rattle.std.proofs.Common.{◌≡◌, ◌≢◌, ◌↔◌, Bool, true, false
 use Rattle.std.specs.Prelude.{Result, Ok, Err, IfOk, IfErr, All}
 use Rattle.std.specs.Global.{Box}
 use Rattle.std.specs.List.{AllZip, AllByRecursion}
-use Rattle.std.proofs.lemmas.List.{take_more, take_all}
+use Rattle.std.proofs.lemmas.Bool.{false≢true}
+use Rattle.std.proofs.lemmas.List.{take_more}
 use Rattle.std.proofs.lemmas.List.Elements.{All-nil, All-from_recursion}
 use Rattle.vw_cell.specs.declared.cells.Cell.{Cell}
 use Rattle.vox_chunk.specs.declared.faults.VoxFault.{VoxFault}
@@ -16,8 +17,8 @@ use Rattle.vox_scene.specs.declared.faults.SceneFault.{SceneFault}
 use Rattle.vox_scene.specs.declared.faults.SceneFault.TheVariants as scenes
 use Rattle.history_model.specs.declared.histories.Record.{Record}
 use Rattle.history_model.specs.declared.histories.Mark.{Mark}
-use Rattle.history_model.specs.Logs.{Log, IsLegal, suits_tints}
-use Rattle.node_words.specs.Plans.{Layout}
+use Rattle.history_model.specs.Logs.{Log, IsLegal, side_of_world, suits_tints}
+use Rattle.node_words.specs.Plans.{Layout, usual_buckets}
 use Rattle.store_run.specs.Marked.{AreLegalMarks}
 use Rattle.store_run.specs.Replaying.{AreLegalRecords}
 use Rattle.dag_answers.specs.declared.making.HistoryRefused.{HistoryRefused}
@@ -26,8 +27,8 @@ use Rattle.dag_answers.specs.Histories.{RefusesHistoryOver}
 use Rattle.dag_answers.proofs.LegalLaws.{legal_whole}
 use Rattle.voxdag_c.specs.declared.held.scenes.CScene.{CScene}
 use Rattle.voxdag_c.specs.declared.held.worlds.CWorld.{CWorld}
-use Rattle.voxdag_c.specs.held.Calls.{AreSideAndCap, status_of_file}
-use Rattle.voxdag_c.specs.held.Scenes.{FillsScene, HasSceneFault, IsBehindScene, IsSceneAsked, IsSceneOpen, IsStoreOf, OpensScene, PutsSceneFault, RefusesSceneIn, RefusesStamps, RefusesToOpen, RefusesVox, scene_log, side_asked, stamp_record, stamps_from, stamps_status, stands_told}
+use Rattle.voxdag_c.specs.held.Calls.{AreSideAndCap, AreSlots, status_of_file}
+use Rattle.voxdag_c.specs.held.Scenes.{FillsScene, HasSceneFault, IsBehindScene, IsSceneAsked, IsSceneOpen, IsStoreOf, OpensScene, PutsSceneFault, RefusesSceneIn, RefusesStamps, RefusesToOpen, RefusesVox, fault_told, scene_log, side_asked, stamp_record, stamps_from, stamps_status, stands_told}
 
 -- ---- what is asked for
 
@@ -125,7 +126,7 @@ vox_refused fault bytes status eq r =
 module _ (bytes : List ℕ) (models : List Content) (has : HasModels bytes models)
     (old new : CScene) where
   found : (fault : SceneFault) (status : ℕ) → HasSceneFault bytes fault
-      → (new ≡ _) × (status ≡ 22) → RefusesSceneIn bytes old new status
+      → (new ≡ fault_told fault) × (status ≡ 22) → RefusesSceneIn bytes old new status
   found fault status is puts =
       subst (λ (n : ℕ). RefusesSceneIn bytes old new n) (sym puts.1)
       (RefusesSceneIn.no_scene fault is puts.0)
@@ -184,13 +185,17 @@ module _ (c : Bool) (p : Layout) (scene : SceneState) (rs : List Record)
     line = line;
   }
 
-  pub stamps_refused : (why : HistoryRefused) (status : ℕ) → status ≡ stamps_status why
-      → RefusesHistoryOver p scene.models
-      (record { side = p.side; coloured = c; records = rs; marks = [] }) why
+  -- the history may be told in other words
+  pub stamps_refused : (models : List Content) (log : Log) (why : HistoryRefused) (status : ℕ)
+      → models ≡ scene.models
+      → log ≡ record { side = p.side; coloured = c; records = rs; marks = [] }
+      → status ≡ stamps_status why → RefusesHistoryOver p models log why
       → RefusesStamps c p scene status
-  stamps_refused why status eq says =
+  stamps_refused models log why status same is eq says =
       subst (λ (n : ℕ). RefusesStamps c p scene n) (sym eq)
-      (go why (subst (λ (l : Log). RefusesHistoryOver p scene.models l why) same_log says))
+      (go why
+      (subst (λ (l : Log). RefusesHistoryOver p scene.models l why) (is ∙ same_log)
+      (subst (λ (ms : List Content). RefusesHistoryOver p ms log why) same says)))
     where
       go : (why : HistoryRefused)
           → RefusesHistoryOver p scene.models (scene_log c p.side scene) why
@@ -204,6 +209,36 @@ module _ (c : Bool) (p : Layout) (scene : SceneState) (rs : List Record)
             fills = full.1;
           })
       go histories.Memory memory = RefusesStamps.memory
+
+-- ---- the world that is opened
+
+pub no_side : (c : Bool) (side least cells cap : ℕ) → cells ≡ side_asked side least
+    → (AreSideAndCap c cells cap → false ≡ true) → ¬ AreSideAndCap c (side_asked side least) cap
+no_side c side least cells cap is none are =
+    false≢true (none (subst (λ (n : ℕ). AreSideAndCap c n cap) (sym is) are))
+
+pub store_asked : (c : Bool) (side least cells cap : ℕ) (p : Layout) → cells ≡ side_asked side least
+    → side_of_world c (2 ^ p.side) ≡ cells → p.buckets ≡ usual_buckets → AreSlots cap p.cap
+    → IsStoreOf c (side_asked side least) cap p
+store_asked c side least cells cap p is of buckets slots =
+    record { cells_are = of ∙ is; buckets = buckets; slots = slots }
+
+pub boxed_scene : (c : Bool) (side cap keep : ℕ) (bytes : List ℕ) (w : CWorld)
+    (result : Result (Box CWorld) ℕ) → IfOk result (λ b. b.value ≡ w)
+    → IsSceneOpen c side cap keep bytes w
+    → IfOk result (λ b. IsSceneOpen c side cap keep bytes b.value)
+boxed_scene c side cap keep bytes w (Err status) is stands = tt
+boxed_scene c side cap keep bytes w (Ok b) is stands =
+    subst (λ (v : CWorld). IsSceneOpen c side cap keep bytes v) (sym is) stands
+
+pub not_boxed_scene : {X : Type 0} (c : Bool) (side cap : ℕ) (bytes : List ℕ)
+    (old mid new : CScene) → IsSceneAsked c side cap → mid ≡ old
+    → (result : Result X ℕ) → IfErr result (λ status. (status ≡ 2) × (new ≡ mid))
+    → IfErr result (RefusesToOpen c side cap bytes old new)
+not_boxed_scene c side cap bytes old mid new asked same (Ok x) is = tt
+not_boxed_scene c side cap bytes old mid new asked same (Err status) is =
+    subst (λ (n : ℕ). RefusesToOpen c side cap bytes old new n) (sym is.0)
+    (RefusesToOpen.memory asked (is.1 ∙ same))
 
 -- ---- handles
 

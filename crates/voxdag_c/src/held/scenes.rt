@@ -16,7 +16,7 @@ use node_words::Plan;
 use std::alloc::Global;
 use vox_read::read_models;
 use vox_scene::{Scene, SceneFault, read_scene};
-use vw_cell::{Cell, Memory, Side};
+use vw_cell::{Cell, Memory};
 
 /// What C is told of a scene: how many models stand in it; or the number of what is wrong with it,
 /// and where.
@@ -53,7 +53,7 @@ impl CWorld {
             Ok(scene) => scene,
             Err(status) => return Err(status),
         };
-        let plan = match plan_of(cells_asked(side, scene.side), cap, tint) {
+        let plan = match plan_of(cells_asked(side, &scene), cap, tint) {
             Some(plan) => plan,
             None => return Err(status::OUTSIDE),
         };
@@ -83,13 +83,13 @@ fn is_planned(side: u32, cap: u16, tint: bool) -> bool
     }
 }
 
-// The side that is asked for, in cells.
+// The side that is asked for, in cells: 0 asks for the least that holds the scene.
 #[tactic(auto, using(crate::proofs::OfHeld::Scenes::least_asked, crate::proofs::OfHeld::Scenes::given_asked))]
-fn cells_asked(side: u32, least: Side) -> u32
-    ensures { result ≡ side_asked side least }
+fn cells_asked(side: u32, scene: &Scene) -> u32
+    ensures { result ≡ side_asked side scene.now.side }
 {
     if side == 0 {
-        return least.cells();
+        return scene.side.cells();
     }
     side
 }
@@ -165,19 +165,18 @@ fn behind_scene(
     ensures behind { IfOk result (IsBehindScene tint plan.now keep scene) }
     ensures refused { IfErr result (RefusesStamps tint plan.now scene) }
 {
-    let Scene { models, places, .. } = scene;
-    let records = match stamps_of(alloc, tint, places.as_slice()) {
+    let records = match stamps_of(alloc, tint, scene.places.as_slice()) {
         Ok(records) => records,
         Err(_) => return Err(status::NO_MEMORY),
     };
-    let line = places.len() as u32 + 1;
+    let line = scene.places.len() as u32 + 1;
     let history = History {
         side: plan.side(),
         coloured: tint,
         records,
         marks: Vec::new(alloc),
     };
-    match world_of_history(alloc, &history, models, plan) {
+    match world_of_history(alloc, &history, scene.models, plan) {
         Ok(open) => Ok(CWorld { open, keep, line }),
         Err(why) => Err(status_of_stamps(why)),
     }
