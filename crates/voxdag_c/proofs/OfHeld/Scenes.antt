@@ -1,5 +1,5 @@
 -- What comes of a file's scene.
-use Rattle.std.proofs.Common.{◌≡◌, ◌≢◌, ◌↔◌, Bool, true, false, ℕ, zero, suc, ◌+◌, ◌^◌, ◌<◌, ◌≤◌, List, [], ◌∷◌, ◌++◌, Option, Some, None, length, length-take, take, get_or, refl, sym, ap, subst, ◌∙◌, arith}
+use Rattle.std.proofs.Common.{◌≡◌, ◌≢◌, Bool, true, false, ℕ, zero, suc, ◌+◌, ◌^◌, ◌<◌, ◌≤◌, List, [], ◌∷◌, ◌++◌, Option, Some, None, length, length-take, take, get_or, refl, sym, ap, subst, ◌∙◌, arith}
 use Rattle.std.specs.Prelude.{Result, Ok, Err, IfOk, IfErr, All}
 use Rattle.std.specs.Global.{Box}
 use Rattle.std.specs.List.{AllZip, AllByRecursion}
@@ -28,7 +28,7 @@ use Rattle.dag_answers.proofs.LegalLaws.{legal_whole}
 use Rattle.voxdag_c.specs.declared.held.scenes.CScene.{CScene}
 use Rattle.voxdag_c.specs.declared.held.worlds.CWorld.{CWorld}
 use Rattle.voxdag_c.specs.held.Calls.{AreSideAndCap, AreSlots, status_of_file}
-use Rattle.voxdag_c.specs.held.Scenes.{FillsScene, HasSceneFault, IsBehindScene, IsSceneAsked, IsSceneOpen, IsStoreOf, OpensScene, PutsSceneFault, RefusesSceneIn, RefusesStamps, RefusesToOpen, RefusesVox, fault_told, scene_log, side_asked, stamp_record, stamps_from, stamps_status, stands_told}
+use Rattle.voxdag_c.specs.held.Scenes.{HasSceneFault, IsBehindScene, IsSceneAsked, IsSceneOpen, IsStoreOf, OpensScene, PutsSceneFault, RefusesSceneIn, RefusesStamps, RefusesToOpen, RefusesVox, fault_told, scene_log, side_asked, stamp_record, stamps_from, stamps_status, stands_told}
 
 -- ---- what is asked for
 
@@ -95,7 +95,7 @@ pub few_places : (bytes : List ℕ) (scene : SceneState) → HasScene bytes scen
 few_places bytes scene has are =
     let is = has.is in
     let models =
-        zip_length (λ s m. IsRotated s.model s.axis_map m) has.stands scene.models is.turned in
+    zip_length (λ s m. IsRotated s.model s.axis_map m) has.stands scene.models is.turned in
     let places = zip_length (IsPlaced is.least) has.stands scene.places is.placed in
     let few = are.few in
     omega (arith, models, places, few)

@@ -1,4 +1,4 @@
-use Rattle.std.proofs.Common.{◌≡◌, [], rules}
+use Rattle.std.proofs.Common.{◌≡◌, rules}
 use Rattle.voxdag_c.specs.held.Scenes.{RefusesStamps, stamps_from}
 use Rattle.voxdag_c.proofs.OfHeld.Scenes.{stamps_refused, stamps_suit}
 use Rattle.voxdag_c.proofs.held.scenes.behind_scene.Goals as goal

@@ -1,6 +1,6 @@
 use Rattle.std.proofs.Common.{◌≡◌, false, rules, refl, sym, ◌∙◌}
 use Rattle.std.proofs.lemmas.Bool.{false≢true}
-use Rattle.voxdag_c.specs.held.Scenes.{IsSceneAsked, IsStoreOf, RefusesToOpen, side_asked}
+use Rattle.voxdag_c.specs.held.Scenes.{RefusesToOpen}
 use Rattle.voxdag_c.proofs.OfHeld.Scenes.{boxed_scene, no_side, not_boxed_scene, store_asked}
 use Rattle.voxdag_c.proofs.held.worlds.CWorld.from_scene.Goals as goal
 
