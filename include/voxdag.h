@@ -65,7 +65,8 @@ enum {
     VOXDAG_BAD_JOURNAL = 18,    /* no journal: the first line that doesn't fit is told */
     VOXDAG_NOT_LEGAL = 19,      /* a record of the journal breaks a rule: its line is told */
     VOXDAG_OTHER_KIND = 20,     /* a call for worlds with tints where cells have none, or the reverse */
-    VOXDAG_BAD_TINT = 21        /* a tint isn't from 1 to 255 */
+    VOXDAG_BAD_TINT = 21,       /* a tint isn't from 1 to 255 */
+    VOXDAG_BAD_SCENE = 22       /* the file's scene breaks a rule: which, and where, is told */
 };
 
 /* All bytes 0: no world is open. */
@@ -98,6 +99,10 @@ typedef struct voxdag_plan {
     uint32_t tints; /* 0: cells are set or clear; 1: set cells have tints */
 } voxdag_plan;
 
+/* What is told of a file's scene: how many models stand in it, and 0 and 0; or 0, and the kind and the
+ * place of its first fault, as docs/FLOODS_AND_SCENES.md has them. */
+typedef struct voxdag_scene { uint32_t placements, kind, at; } voxdag_scene;
+
 /* What the library exports. These test all but null, and a bool that they are given is 0 or 1: call
  * the functions below. */
 voxdag_status voxdag_c_open(voxdag_world *w, uint32_t side, uint16_t cap, const uint8_t *file, size_t size);
@@ -105,6 +110,8 @@ voxdag_status voxdag_c_open_as(voxdag_world *w, uint32_t side, uint16_t cap, uin
                                const uint8_t *file, size_t size);
 voxdag_status voxdag_c_open_journal(voxdag_world *w, uint16_t cap, uint32_t keep, const uint8_t *file, size_t size,
                                     const uint8_t *journal, size_t length, uint32_t *line);
+voxdag_status voxdag_c_open_scene(voxdag_world *w, uint32_t side, uint16_t cap, uint32_t keep, bool tint,
+                                  const uint8_t *file, size_t size, voxdag_scene *scene);
 voxdag_status voxdag_c_close(voxdag_world *w);
 voxdag_status voxdag_c_fill(voxdag_world *w, const voxdag_box *part);
 voxdag_status voxdag_c_erase(voxdag_world *w, const voxdag_box *part);
@@ -194,6 +201,26 @@ static inline voxdag_status voxdag_open_journal(voxdag_world *w, const voxdag_pl
     if (w->is_open) return VOXDAG_IS_OPEN;
     if (plan->cap > 256) return VOXDAG_BAD_PLAN;
     return voxdag_c_open_journal(w, (uint16_t)plan->cap, plan->keep, file ? file : &none, size, journal ? journal : &none, length, line);
+}
+
+/* Opens the world of a VOX file's scene, as `voxdag scene` reads it: its turned models are the world's,
+ * by their order, and version n is version n - 1 with model n - 1 stamped where it stands. plan->side 0
+ * is the least side that holds the scene; plan->keep counts from the next change on.
+ *   IS_OPEN      exactly where w has a world already
+ *   BAD_PLAN     exactly where voxdag_open_as would say so, but for a side of 0
+ *   BAD_FILE     a rule of VOX files is broken, or size is over 2^28
+ *   BAD_SCENE    *scene: what is wrong with the scene, and where
+ *   OUTSIDE      a model leaves the world; or side 0 was asked for, with tints, and is over 1,024
+ *   STORE_FULL   a bucket has no room for what a stamp needs
+ *   NO_MEMORY    at any other time. *scene is written with OK and BAD_SCENE alone */
+static inline voxdag_status voxdag_open_scene(voxdag_world *w, const voxdag_plan *plan, const uint8_t *file, size_t size,
+                                              voxdag_scene *scene)
+{
+    static const uint8_t none = 0;
+    if (!w || !plan || !scene || (!file && size)) return VOXDAG_NULL;
+    if (w->is_open) return VOXDAG_IS_OPEN;
+    if (plan->cap > 256 || plan->tints > 1) return VOXDAG_BAD_PLAN;
+    return voxdag_c_open_scene(w, plan->side, (uint16_t)plan->cap, plan->keep, plan->tints == 1, file ? file : &none, size, scene);
 }
 
 /* Closes the world and gives its memory back. IS_CLOSED where there was none. */

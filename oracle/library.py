@@ -5,7 +5,8 @@
 
 So many calls by chance (100,000) are made of worlds of sides 4 to 32, each lives for some hundreds of calls: changes,
 undos, versions that are forgotten, every question, saves, journals, files of versions; journals are gone on with, some
-with one byte changed; and in one call of eight a number is wrong. What the library answers, or its refusal with the line
+with one byte changed; scenes by chance are opened, as oracle/scenes.py reads them; and in one call of eight a number is
+wrong. What the library answers, or its refusal with the line
 that it tells, has to be what the slow world answers. SEED is by default the day's date as a number. Calls that the
 library doesn't export are named and passed over. The last line is 'N passed, M failed'.
 """
@@ -21,6 +22,7 @@ from random import Random
 ROOT = pathlib.Path(__file__).resolve().parent.parent
 sys.path.insert(0, str(ROOT / "bindings/python"))
 
+import scenes
 import voxdag
 from voxdag import slow
 
@@ -30,7 +32,7 @@ FILES = [(b"", 0), *(((ROOT / f"models/{name}.vox").read_bytes(), count) for nam
 CHANGES = {"fill": 10, "erase": 6, "ball": 6, "carve": 4, "copy": 6, "stamp": 5, "undo": 7, "redo": 5, "forget": 4}
 QUESTIONS = {
     "get": 8, "colour": 4, "count": 6, "faces": 4, "bounds": 4, "ray": 5, "same": 4, "changes": 8, "surface_bytes": 8, "save": 3, "tints": 2,
-    "flood": 3, "journal": 2, "dag": 1, "newest": 2, "model_size": 2, "about": 1, "go_on": 2,
+    "flood": 3, "journal": 2, "dag": 1, "newest": 2, "model_size": 2, "about": 1, "go_on": 2, "open_scene": 1,
 }
 NEEDS = {"surface_bytes": "surface", "tints": "save", "go_on": "open_journal"}
 # What the library answers of worlds without tints alone.
@@ -174,6 +176,52 @@ class Pair:
             del journal[at:]
 
 
+def built(data: bytes, side: int, tints: bool, keep: int) -> tuple[slow.World, int]:
+    """The slow world of a scene, and how many models stand in it."""
+    slow.World(side or 4, tints=tints)
+    try:
+        scene = scenes.scene(data)
+    except scenes.Fault as fault:
+        raise voxdag.BadScene(*fault.args) from None
+    stamps = scene.script.decode().splitlines()
+    least = int(scene.line.split()[1])
+    if tints and not side and least > 1024:
+        raise voxdag.Outside()
+    lines = [f"voxdag journal {1 + tints}", f"side {side or least}", *(f"{n} 0 {n} {stamp}" for n, stamp in enumerate(stamps, 1)), "end", ""]
+    try:
+        return slow.World.open_journal("\n".join(lines).encode(), models=scene.file, keep=keep), len(stamps)
+    except (voxdag.NotLegal, voxdag.BadJournal):
+        raise voxdag.Outside() from None
+
+
+def open_scene(library: voxdag.Library, rng: Random) -> str:
+    """Opens a scene by chance, and compares its world with the slow one."""
+    data = scenes.file_of(rng)
+    plan = {"side": rng.choice([0, 0, 0, 4, 16, 64, 256, 7, 2048]), "tints": rng.random() < 0.3, "keep": rng.choice([0, 2])}
+    answers = []
+    for call in (lambda: voxdag.World.open_scene(data, library=library, **plan), lambda: built(data, **plan)):
+        try:
+            answers.append(call())
+        except voxdag.Refused as refused:
+            answers.append(str(refused))
+    given, wanted = answers
+    if isinstance(given, str) or isinstance(wanted, str):
+        if given != wanted:
+            raise Differs(f"a scene of {len(data)} bytes, {plan}: wanted {wanted}, given {given}")
+        return "a scene's refusal"
+    with given[0] as world, wanted[0] as other:
+        if given[1] != wanted[1]:
+            raise Differs(f"a scene of {len(data)} bytes, {plan}: wanted {wanted[1]} placements, given {given[1]}")
+        at = world.newest
+        box = world.bounds(at) or (0, 0, 0, 1, 1, 1)
+        part = (*box[:3], *(min(n, 256) for n in box[3:]))
+        for ask in (lambda w: w.journal(), lambda w: tuple(w.about), lambda w: w.bounds(at), lambda w: w.count(at // 2, box), lambda w: w.save(at, part),
+                    lambda w: outcome(w.undo), lambda w: w.journal()):
+            if ask(world) != ask(other):
+                raise Differs(f"a scene of {len(data)} bytes, {plan}: its world differs")
+    return "open_scene"
+
+
 def compare(library: voxdag.Library, seed: int, calls: int) -> tuple[int, Counter]:
     """How many worlds differ, and how often each kind of answer came."""
     weights = {name: weight for name, weight in {**CHANGES, **QUESTIONS}.items() if library.exports(NEEDS.get(name, name))}
@@ -190,7 +238,7 @@ def compare(library: voxdag.Library, seed: int, calls: int) -> tuple[int, Counte
             try:
                 arguments = pair.arguments(name)
                 asked.append((name, arguments))
-                kinds[pair.go_on() if name == "go_on" else pair.both(name, arguments)] += 1
+                kinds[pair.go_on() if name == "go_on" else open_scene(library, rng) if name == "open_scene" else pair.both(name, arguments)] += 1
             except Differs as differs:
                 differ += 1
                 print(f"seed {seed}, world {number}, side {pair.side}, tints {pair.tints}, keep {pair.keep}, call {len(asked)}\n  {differs}", flush=True)

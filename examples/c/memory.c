@@ -99,6 +99,25 @@ static int going_on(long n)
     return voxdag_count(&w, 3, &part, &cells) || cells != 512 || voxdag_close(&w) ? 2 : 0;
 }
 
+/* The same of a scene without nodes, where a model of one cell stands once. */
+static int scene(long n)
+{
+    static const uint8_t file[] = {
+        'V', 'O', 'X', ' ', 150, 0, 0, 0, 'M', 'A', 'I', 'N', 0, 0, 0, 0, 44, 0, 0, 0, 'S', 'I', 'Z', 'E', 12, 0, 0, 0, 0, 0, 0, 0, 1, 0, 0, 0, 1, 0, 0, 0, 1, 0, 0, 0,
+        'X', 'Y', 'Z', 'I', 8, 0, 0, 0, 0, 0, 0, 0, 1, 0, 0, 0, 0, 0, 0, 5,
+    };
+    const voxdag_plan usual = {0, 0, 0, 0};
+    voxdag_world w = VOXDAG_CLOSED;
+    voxdag_scene told = {7, 7, 7};
+    const voxdag_box all = {{0, 0, 0}, {4, 4, 4}};
+    uint64_t cells = 0;
+    left = n;
+    voxdag_status s = voxdag_open_scene(&w, &usual, file, sizeof file, &told);
+    left = -1;
+    if (s != VOXDAG_OK) return s == VOXDAG_NO_MEMORY && told.placements == 7 && told.at == 7 && voxdag_close(&w) == VOXDAG_IS_CLOSED ? 1 : 2;
+    return told.placements != 1 || voxdag_count(&w, 1, &all, &cells) || cells != 1 || voxdag_close(&w) ? 2 : 0;
+}
+
 /* The same of a world with tints, up to the file of a box. */
 static int tinted(long n)
 {
@@ -135,9 +154,13 @@ int main(void)
     while ((told = going_on(m)) == 1) m++;
     if (told) printf("memory: allocation %ld of a journal is wrongly told\n", m);
     if (told || m < 5) return 1;
+    long l = 0;
+    while ((told = scene(l)) == 1) l++;
+    if (told) printf("memory: allocation %ld of a scene is wrongly told\n", l);
+    if (told || l < 5) return 1;
     long k = 0;
     while ((told = tinted(k)) == 1) k++;
     if (told) printf("memory: allocation %ld of a world with tints is wrongly told\n", k);
-    else printf("memory: %ld allocations failed in turn\n", n + m + k);
+    else printf("memory: %ld allocations failed in turn\n", n + m + l + k);
     return told != 0 || k < 5;
 }

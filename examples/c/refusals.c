@@ -385,6 +385,119 @@ static int tints(void)
     return 0;
 }
 
+/* What a hand-made file says of its scene: a model of two cells with the colours 5 and 9 stands at (9, 20, 3), and turned by
+ * a quarter at (12, 19, 3), if all is as in `usual`. `more` of its nodes say that they have more pairs than they have, and
+ * `again` is how often the group has the unturned model besides. */
+typedef struct said { uint32_t id, child, model, more, again; const char *turn, *move; } said;
+static const said usual_scene = {4, 3, 0, 0, 0, "17", "12 20 3"};
+
+static uint8_t *number(uint8_t *p, uint32_t n) { for (int k = 0; k < 4; k++) *p++ = (uint8_t)(n >> 8 * k); return p; }
+static uint8_t *string(uint8_t *p, const char *s) { p = number(p, (uint32_t)strlen(s)); memcpy(p, s, strlen(s)); return p + strlen(s); }
+static uint8_t *head(uint8_t *p, const char *name, uint32_t size) { memcpy(p, name, 4); return number(number(p + 4, size), 0); }
+
+/* A node that turns and moves another one. */
+static uint8_t *moves(uint8_t *p, uint32_t id, uint32_t child, uint32_t more, const char *turn, const char *move)
+{
+    const uint32_t pairs = (turn ? 1u : 0u) + (move ? 1u : 0u);
+    p = head(p, "nTRN", 28 + (turn ? 10 + (uint32_t)strlen(turn) : 0) + (move ? 10 + (uint32_t)strlen(move) : 0));
+    p = number(number(number(number(p, id), 0), child), UINT32_MAX);
+    p = number(number(number(p, 0), 1), pairs + more);
+    if (turn) p = string(string(p, "_r"), turn);
+    return move ? string(string(p, "_t"), move) : p;
+}
+
+/* Its bytes: the chunks of the nodes 0 to 3 stand at 68, 108, 140 and 197, and that of the last one at 229. */
+static size_t scene_bytes(uint8_t *out, const said *s)
+{
+    uint8_t *p = head(head(out, "VOX ", 150) - 4, "MAIN", 0);
+    p = number(number(number(head(p, "SIZE", 12), 2), 1), 1);
+    p = number(number(number(head(p, "XYZI", 12), 2), 5u << 24), 9u << 24 | 1u);
+    p = moves(p, 0, 1, 0, NULL, NULL);
+    p = number(number(number(head(p, "nGRP", 20 + 4 * s->again), 1), 0), 2 + s->again);
+    p = number(number(p, 2), 4);
+    for (uint32_t k = 0; k < s->again; k++) p = number(p, 3);
+    p = moves(p, 2, 3, 0, NULL, "10 20 3");
+    p = number(number(number(number(number(head(p, "nSHP", 20), 3), 0), 1), s->model), 0);
+    p = moves(p, s->id, s->child, s->more, s->turn, s->move);
+    number(out + 16, (uint32_t)(p - out) - 20);
+    return (size_t)(p - out);
+}
+
+/* The scene of a file as a world, and what is wrong with others: each with the kind and the place of its first fault. */
+static int scenes(void)
+{
+    static const struct { said says; voxdag_scene told; } faults[] = {
+        {{4, 3, 0, 1, 0, "17", "12 20 3"}, {0, 1, 229}}, {{2, 3, 0, 0, 0, "17", "12 20 3"}, {0, 2, 229}}, {{4, 3, 0, 0, 0, "16", "12 20 3"}, {0, 3, 229}},
+        {{4, 3, 0, 0, 0, "17", "12 20 x"}, {0, 4, 229}}, {{4, 9, 0, 0, 0, "17", "12 20 3"}, {0, 5, 9}},
+        {{4, 1, 0, 0, 0, "17", "12 20 3"}, {0, 6, 2}}, /* the group is below itself: 64 nodes down it comes to node 2 */
+        {{4, 3, 1, 0, 0, "17", "12 20 3"}, {0, 7, 3}}, {{4, 3, 0, 0, 1023, "17", "12 20 3"}, {0, 8, 3}}, {{4, 3, 0, 0, 0, "17", "9999 20 3"}, {0, 9, 0}},
+    };
+    static const char text[] = "voxdag journal 1\nside 4\n1 0 1 stamp 0 0 1 0\n2 0 2 stamp 1 3 0 0\nend\n";
+    static uint8_t file[8192], out[256];
+    const voxdag_plan usual = {0, 0, 0, 0}, tinted = {0, 0, 0, 1}, four = {4, 0, 0, 0}, eight = {8, 5, 3, 0};
+    const voxdag_plan none[] = {{3, 0, 0, 0}, {8192, 0, 0, 0}, {0, 257, 0, 0}, {4, 0, 0, 2}, {2048, 0, 0, 1}};
+    const voxdag_box all = {{0, 0, 0}, {4, 4, 4}}, first = {{0, 1, 0}, {2, 1, 1}}, second = {{3, 0, 0}, {1, 2, 1}};
+    const voxdag_place cells[] = {{0, 1, 0}, {1, 1, 0}, {3, 0, 0}, {3, 1, 0}};
+    said says = usual_scene;
+    voxdag_scene told = {7, 7, 7};
+    voxdag_world w = VOXDAG_CLOSED;
+    voxdag_plan plan = {7, 7, 7, 7};
+    voxdag_place size = in;
+    uint32_t version = 0;
+    uint64_t n = 0;
+    uint8_t tint = 0;
+    size_t length = scene_bytes(file, &says), needed = 0;
+    SAYS(VOXDAG_NULL, voxdag_open_scene(NULL, &usual, file, length, &told)); SAYS(VOXDAG_NULL, voxdag_open_scene(&w, NULL, file, length, &told));
+    SAYS(VOXDAG_NULL, voxdag_open_scene(&w, &usual, NULL, length, &told)); SAYS(VOXDAG_NULL, voxdag_open_scene(&w, &usual, file, length, NULL));
+    for (size_t k = 0; k < NUMBER(none); k++) SAYS(VOXDAG_BAD_PLAN, voxdag_open_scene(&w, &none[k], file, 9, &told));
+    for (size_t k = 0; k < 68; k++) SAYS(VOXDAG_BAD_FILE, voxdag_open_scene(&w, &usual, k ? file : NULL, k, &told));
+    IS(told.placements == 7 && told.kind == 7 && told.at == 7);
+    SAYS(VOXDAG_OK, voxdag_open_scene(&w, &usual, file, length, &told)); IS(told.placements == 2 && !told.kind && !told.at);
+    told.at = 7;
+    SAYS(VOXDAG_IS_OPEN, voxdag_open_scene(&w, &none[2], file, length, &told)); IS(told.placements == 2 && told.at == 7);
+    SAYS(VOXDAG_OK, voxdag_about(&w, &plan)); IS(plan.side == 4 && plan.cap == 128 && !plan.keep && !plan.tints);
+    SAYS(VOXDAG_OK, voxdag_newest(&w, &version)); IS(version == 2);
+    SAYS(VOXDAG_OK, voxdag_model_size(&w, 1, &size)); IS(size.x == 1 && size.y == 2 && size.z == 1); SAYS(VOXDAG_NO_MODEL, voxdag_model_size(&w, 2, &size));
+    SAYS(VOXDAG_OK, voxdag_count(&w, 1, &all, &n)); IS(n == 2); SAYS(VOXDAG_OK, voxdag_count(&w, 1, &first, &n)); IS(n == 2);
+    SAYS(VOXDAG_OK, voxdag_count(&w, 2, &all, &n)); IS(n == 4); SAYS(VOXDAG_OK, voxdag_count(&w, 2, &second, &n)); IS(n == 2);
+    SAYS(VOXDAG_OK, voxdag_journal(&w, out, sizeof out, &needed)); IS(needed == sizeof text - 1 && !memcmp(out, text, needed));
+    SAYS(VOXDAG_OK, voxdag_undo(&w)); SAYS(VOXDAG_OK, voxdag_count(&w, 3, &all, &n)); IS(n == 2);
+    SAYS(VOXDAG_OK, voxdag_close(&w));
+    SAYS(VOXDAG_OK, voxdag_open_scene(&w, &tinted, file, length, &told)); IS(told.placements == 2 && !told.at);
+    for (size_t k = 0; k < NUMBER(cells); k++) { SAYS(VOXDAG_OK, voxdag_colour(&w, 2, &cells[k], &tint)); IS(tint == (k % 2 ? 9 : 5)); }
+    SAYS(VOXDAG_OK, voxdag_close(&w));
+    /* The last ones are counted from the next change on. */
+    SAYS(VOXDAG_OK, voxdag_open_scene(&w, &eight, file, length, &told)); SAYS(VOXDAG_OK, voxdag_about(&w, &plan));
+    IS(plan.side == 8 && plan.cap == 5 && plan.keep == 3 && !plan.tints);
+    SAYS(VOXDAG_OK, voxdag_count(&w, 0, &all, &n)); SAYS(VOXDAG_OK, voxdag_fill(&w, &all)); SAYS(VOXDAG_FORGOTTEN, voxdag_count(&w, 0, &all, &n));
+    SAYS(VOXDAG_OK, voxdag_close(&w));
+    says.again = 1022;
+    length = scene_bytes(file, &says);
+    SAYS(VOXDAG_OK, voxdag_open_scene(&w, &usual, file, length, &told)); IS(told.placements == 1024 && !told.kind);
+    SAYS(VOXDAG_OK, voxdag_about(&w, &plan)); IS(plan.side == 32); SAYS(VOXDAG_OK, voxdag_newest(&w, &version)); IS(version == 1024);
+    SAYS(VOXDAG_OK, voxdag_close(&w));
+    told.at = 7;
+    says = usual_scene;
+    says.move = "14 20 3"; /* the turned model ends at 6, and so needs a side of 8 */
+    length = scene_bytes(file, &says);
+    SAYS(VOXDAG_OUTSIDE, voxdag_open_scene(&w, &four, file, length, &told)); IS(told.placements == 1024 && told.at == 7);
+    SAYS(VOXDAG_OK, voxdag_open_scene(&w, &eight, file, length, &told)); SAYS(VOXDAG_OK, voxdag_close(&w)); IS(told.placements == 2);
+    says.move = "1500 20 3"; /* 2,048, which no world with tints has */
+    length = scene_bytes(file, &says);
+    told.at = 7;
+    SAYS(VOXDAG_OUTSIDE, voxdag_open_scene(&w, &tinted, file, length, &told)); IS(told.at == 7);
+    SAYS(VOXDAG_OK, voxdag_open_scene(&w, &usual, file, length, &told)); SAYS(VOXDAG_OK, voxdag_about(&w, &plan)); IS(plan.side == 2048);
+    SAYS(VOXDAG_OK, voxdag_close(&w));
+    for (size_t k = 0; k < NUMBER(faults); k++) {
+        told.placements = 7;
+        length = scene_bytes(file, &faults[k].says);
+        SAYS(VOXDAG_BAD_SCENE, voxdag_open_scene(&w, &four, file, length, &told));
+        IS(!told.placements && told.kind == faults[k].told.kind && told.at == faults[k].told.at);
+        SAYS(VOXDAG_IS_CLOSED, voxdag_close(&w));
+    }
+    return 0;
+}
+
 /* The journal of the open world goes on in buckets as large, with the same bytes, and not in buckets of one node. */
 static int narrow(voxdag_world *w)
 {
@@ -441,7 +554,7 @@ int main(void)
     uint32_t newest = 0;
     SAYS(VOXDAG_OK, voxdag_newest(&w, &newest)); SAYS(VOXDAG_OK, voxdag_count(&w, newest, &good, &n)); IS(newest > 0 && n > 0);
     SAYS(VOXDAG_OK, voxdag_close(&w));
-    if (versions() || journals() || tints() || keeping()) return 1;
+    if (versions() || journals() || scenes() || tints() || keeping()) return 1;
     /* As many fills in buckets of the usual size. */
     SAYS(VOXDAG_OK, voxdag_open(&w, 64));
     for (uint32_t k = 0; k <= newest; k++) {

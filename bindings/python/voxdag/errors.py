@@ -101,7 +101,15 @@ class BadTint(Refused):
 
 
 class BadScene(Refused):
-    status, words = 22, "the file's scene has a fault"
+    """`kind` and `at` tell the scene's first fault, by the table of docs/FLOODS_AND_SCENES.md."""
+
+    status, words = 22, "the file's scene breaks a rule"
+
+    def __init__(self, kind: int = 0, at: int = 0) -> None:
+        super().__init__()
+        self.kind, self.at = kind, at
+        if kind:
+            self.args = (f"{self.words}: kind {kind}, at {at}",)
 
 
 class BadDag(Refused):
@@ -125,8 +133,8 @@ BY_STATUS: dict[int, type[Refused]] = {kind.status: kind for kind in Refused.__s
 
 def refusal(status: int, line: Optional[int] = None) -> Refused:
     """The exception of a status."""
-    if kind := BY_STATUS.get(status):
-        return kind(line)
+    if (kind := BY_STATUS.get(status)) is not None:
+        return BadScene() if kind is BadScene else kind(line)
     unknown = Refused()
     unknown.args = (f"status {status}",)
     return unknown

@@ -29,6 +29,10 @@ class CPlan(c.Structure):
     _fields_ = [("side", c.c_uint32), ("cap", c.c_uint32), ("keep", c.c_uint32), ("tints", c.c_uint32)]
 
 
+class CScene(c.Structure):
+    _fields_ = [("placements", c.c_uint32), ("kind", c.c_uint32), ("at", c.c_uint32)]
+
+
 _P = c.POINTER
 _BYTES = c.c_void_p
 _N = c.c_uint32
@@ -57,7 +61,7 @@ SIGNATURES: dict[str, list[Any]] = {
     "journal": [_BYTES, c.c_size_t, _P(c.c_size_t)],
     "open_as": [_P(CPlan), _BYTES, c.c_size_t],
     "open_journal": [_P(CPlan), _BYTES, c.c_size_t, _BYTES, c.c_size_t, _P(_N)],
-    "open_scene": [_P(CPlan), _BYTES, c.c_size_t, _P(_N)],
+    "open_scene": [_P(CPlan), _BYTES, c.c_size_t, _P(CScene)],
     "open_dag": [_BYTES, c.c_size_t],
     "about": [_P(CPlan)],
     "fill_tint": [_P(CBox), _N],

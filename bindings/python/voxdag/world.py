@@ -6,8 +6,8 @@ import ctypes as c
 import threading
 from typing import Any, Callable, NamedTuple, Optional, Sequence, Union
 
-from .errors import BadPlan, TooSmall, refusal
-from .library import CBox, CHandle, CPlace, CPlan, Library, load
+from .errors import BadPlan, BadScene, TooSmall, refusal
+from .library import CBox, CHandle, CPlace, CPlan, CScene, Library, load
 
 try:
     import numpy
@@ -137,13 +137,17 @@ class World:
     @classmethod
     def open_scene(cls, file: Bytes, *, side: int = 0, tints: bool = False, cap: int = 0, keep: int = 0,
                    library: Optional[Library] = None) -> Scene:
-        """The world of a VOX file's scene: its placed models are stamped. Side 0 is the least that holds all."""
+        """The world of a VOX file's scene: its turned models, each stamped where it stands. Side 0 is the least that
+        holds all. Raises BadScene with the kind and the place of what is wrong."""
         world = cls.__new__(cls)
         world._start(library)
         data, size = _given(file)
-        placements = c.c_uint32()
-        world._call("open_scene", _plan(side, cap, keep, tints), data, size, c.byref(placements))
-        return Scene(world, placements.value)
+        scene = CScene()
+        try:
+            world._call("open_scene", _plan(side, cap, keep, tints), data, size, c.byref(scene))
+        except BadScene:
+            raise BadScene(scene.kind, scene.at) from None
+        return Scene(world, scene.placements)
 
     @classmethod
     def open_dag(cls, file: Bytes, *, library: Optional[Library] = None) -> "World":

@@ -9,7 +9,8 @@ use std::ffi::c_void;
 use std::fmt;
 use std::ptr::null_mut;
 
-/// Why a call was refused: the statuses of `voxdag.h`. A journal's line is told where one is at fault.
+/// Why a call was refused: the statuses of `voxdag.h`. A journal's line is told where one is at fault, and of a scene
+/// the kind and the place of what is wrong.
 #[derive(Clone, Copy, Debug, PartialEq, Eq)]
 #[non_exhaustive]
 pub enum Refusal {
@@ -30,7 +31,7 @@ pub enum Refusal {
     NotLegal { line: u32 },
     OtherKind,
     BadTint,
-    BadScene,
+    BadScene { kind: u32, at: u32 },
     BadDag,
     OnlyAsked,
     Other(u32),
@@ -56,7 +57,7 @@ impl Refusal {
             19 => Refusal::NotLegal { line },
             20 => Refusal::OtherKind,
             21 => Refusal::BadTint,
-            22 => Refusal::BadScene,
+            22 => Refusal::BadScene { kind: 0, at: 0 },
             23 => Refusal::BadDag,
             24 => Refusal::OnlyAsked,
             other => Refusal::Other(other),
@@ -84,7 +85,7 @@ impl fmt::Display for Refusal {
             Refusal::NotLegal { line } => write!(f, "a record that breaks a rule of a legal history, line {line}"),
             Refusal::OtherKind => write!(f, "a call for the other kind of world: with tints, or without"),
             Refusal::BadTint => write!(f, "a tint isn't from 1 to 255"),
-            Refusal::BadScene => write!(f, "the file's scene has a fault"),
+            Refusal::BadScene { kind, at } => write!(f, "the file's scene breaks a rule: kind {kind}, at {at}"),
             Refusal::BadDag => write!(f, "no file of versions"),
             Refusal::OnlyAsked => write!(f, "a world that is only asked can't be changed"),
             Refusal::Other(status) => write!(f, "status {status}"),
@@ -129,6 +130,16 @@ pub struct Plan {
     pub keep: u32,
     /// 1 where cells have tints.
     pub tints: u32,
+}
+
+/// What is told of a scene.
+#[cfg(voxdag = "open_scene")]
+#[repr(C)]
+#[derive(Default)]
+struct Scene {
+    placements: u32,
+    kind: u32,
+    at: u32,
 }
 
 /// A cell that can be seen: its place from the box's corner, its tint (1 in a world without tints), and which sides are
@@ -208,7 +219,7 @@ calls! {
     voxdag_open_journal(plan: *const Plan, file: *const u8, size: usize, journal: *const u8, length: usize, line: *mut u32);
 }
 #[cfg(voxdag = "open_scene")]
-calls! { voxdag_open_scene(plan: *const Plan, file: *const u8, size: usize, placements: *mut u32); }
+calls! { voxdag_open_scene(plan: *const Plan, file: *const u8, size: usize, scene: *mut Scene); }
 #[cfg(voxdag = "open_dag")]
 calls! { voxdag_open_dag(file: *const u8, size: usize); }
 #[cfg(voxdag = "about")]
@@ -276,12 +287,16 @@ impl World {
         }
     }
 
-    /// The world of a VOX file's scene, and how many models stand in it. Side 0 is the least that holds all.
+    /// The world of a VOX file's scene, and how many models stand in it: each is turned, and stamped where it stands. Side 0
+    /// is the least that holds all.
     #[cfg(voxdag = "open_scene")]
     pub fn open_scene(plan: &Plan, file: &[u8]) -> Answer<(World, u32)> {
-        let (mut w, mut placements) = (World::closed(), 0);
-        told(unsafe { voxdag_open_scene(&mut w.0, plan, file.as_ptr(), file.len(), &mut placements) })?;
-        Ok((w, placements))
+        let (mut w, mut scene) = (World::closed(), Scene::default());
+        match told(unsafe { voxdag_open_scene(&mut w.0, plan, file.as_ptr(), file.len(), &mut scene) }) {
+            Ok(()) => Ok((w, scene.placements)),
+            Err(Refusal::BadScene { .. }) => Err(Refusal::BadScene { kind: scene.kind, at: scene.at }),
+            Err(other) => Err(other),
+        }
     }
 
     /// The versions of a DAG file, as a world that is only asked.

@@ -106,6 +106,25 @@ fn a_world_is_gone_on_with() -> Result<(), Refusal> {
     Ok(())
 }
 
+#[cfg(all(voxdag = "open_scene", voxdag = "colour"))]
+#[test]
+fn a_scene_is_opened() -> Result<(), Refusal> {
+    use voxdag::Plan;
+    // Two cells of the colours 5 and 9 stand once, where their model is the scene: its chunks and no nodes.
+    let words = |numbers: &[u32]| numbers.iter().flat_map(|n| n.to_le_bytes()).collect::<Vec<u8>>();
+    let chunk = |name: &[u8], content: &[u32]| [name, &words(&[4 * content.len() as u32, 0]), &words(content)].concat();
+    let model = [chunk(b"SIZE", &[2, 1, 1]), chunk(b"XYZI", &[2, 5 << 24, 9 << 24 | 1])].concat();
+    let file = |more: &[u8]| [b"VOX " as &[u8], &words(&[150]), b"MAIN", &words(&[0, (model.len() + more.len()) as u32]), &model, more].concat();
+    let (mut world, placements) = World::open_scene(&Plan { tints: 1, ..Plan::default() }, &file(&[]))?;
+    assert_eq!((placements, world.newest()?, world.about()?.side), (1, 1, 4));
+    assert_eq!((world.colour(1, place(0, 0, 0))?, world.colour(1, place(1, 0, 0))?, world.colour(1, place(2, 0, 0))?), (5, 9, 0));
+    // Node 0 shows model 1 of the file, which it hasn't; and a world has no side of 5.
+    let no_model = World::open_scene(&Plan::default(), &file(&chunk(b"nSHP", &[0, 0, 1, 1, 0])));
+    assert_eq!(no_model.err(), Some(Refusal::BadScene { kind: 7, at: 0 }));
+    assert_eq!(World::open_scene(&Plan { side: 5, ..Plan::default() }, &file(&[])).err(), Some(Refusal::BadPlan));
+    Ok(())
+}
+
 #[cfg(all(voxdag = "open_as", voxdag = "fill_tint", voxdag = "colour"))]
 #[test]
 fn cells_have_tints() -> Result<(), Refusal> {

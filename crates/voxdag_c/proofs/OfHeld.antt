@@ -4,3 +4,4 @@ pub mod Kinds
 pub mod Changing
 pub mod Opening
 pub mod GoingOn
+pub mod Scenes

@@ -21,8 +21,9 @@ ghost use Rattle.voxdag_c.specs.held.Calls.{ByKind, WorldDiffers, WorldShows, Wo
 ghost use Rattle.voxdag_c.specs.held.Calls.{PutsNewest, PutsSize, WritesNothing, ClosesHandle};
 ghost use Rattle.voxdag_c.specs.held.Facts.{WorldFiles, PutsPlan};
 ghost use Rattle.voxdag_c.specs.held.GoingOn.{GoesOnInHandle};
+ghost use Rattle.voxdag_c.specs.held.Scenes.{OpensScene};
 
-use crate::held::{CBox, CPlace, CPlan, CShown, CWorld, Handle, statuses as status};
+use crate::held::{CBox, CPlace, CPlan, CScene, CShown, CWorld, Handle, statuses as status};
 use std::alloc::Global;
 
 /// Sets the cells of a box.
@@ -742,6 +743,38 @@ pub extern "C" fn voxdag_c_open_journal(
             status::IS_OPEN
         }
         None => match CWorld::from_journal(alloc, cap, keep, file, journal, line) {
+            Ok(world) => {
+                handle.put(world);
+                status::DONE
+            }
+            Err(status) => status,
+        },
+    }
+}
+
+/// Opens the world of the scene of a VOX file, whose turned models are stamped where they stand: of
+/// this side, where 0 stands for the least that holds it, and else as `voxdag_c_open_as`. How many
+/// models stand in it is told, or what is wrong with the scene, and where.
+#[unsafe(no_mangle)]
+pub extern "C" fn voxdag_c_open_scene(
+    alloc: Global,
+    handle: &mut Handle,
+    side: u32,
+    cap: u16,
+    keep: u32,
+    tint: bool,
+    file: &[u8],
+    told: &mut CScene,
+) -> u32
+    ensures { OpensScene tint side cap keep file.now told.old told.new handle.old.kept.value
+        result handle.new.kept.value }
+{
+    match handle.take(alloc) {
+        Some(world) => {
+            handle.put(world);
+            status::IS_OPEN
+        }
+        None => match CWorld::from_scene(alloc, side, cap, keep, tint, file, told) {
             Ok(world) => {
                 handle.put(world);
                 status::DONE

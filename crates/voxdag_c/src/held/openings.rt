@@ -49,7 +49,7 @@ impl CWorld {
 
 // Whether buckets can have so many slots, where 0 asks for the usual number.
 #[tactic(auto, using(crate::proofs::OfHeld::GoingOn::cap_is_asked, crate::proofs::OfHeld::GoingOn::cap_is_not))]
-fn is_cap_asked(cap: u16) -> bool
+pub(crate) fn is_cap_asked(cap: u16) -> bool
     ensures yes { result ≡ true → IsCapAsked cap }
     ensures no { result ≡ false → ¬ IsCapAsked cap }
 {

@@ -42,3 +42,5 @@ pub const NOT_LEGAL: u32 = 19;
 pub const OTHER_KIND: u32 = 20;
 /// A tint is a number from 1 to 255.
 pub const BAD_TINT: u32 = 21;
+/// The file's scene breaks a rule: what is wrong, and where, was told.
+pub const BAD_SCENE: u32 = 22;

@@ -25,7 +25,7 @@ use vox_read::{Models, VoxFault, read_models};
 use vw_cell::{Memory, Side};
 
 /// The most bytes of a file whose models are read.
-const MOST_BYTES: usize = 1 << 28;
+pub(crate) const MOST_BYTES: usize = 1 << 28;
 
 /// A world that C holds, how many of its last versions are kept, 0 for all, and the number of the
 /// change that comes next. All that C does counts as done by session 0, each accepted change and
@@ -272,7 +272,7 @@ impl CWorld {
 }
 
 // A plain act as a world takes it whose cells have tints, or have none.
-fn act_of_kind(tint: bool, act: Act) -> Act
+pub(crate) fn act_of_kind(tint: bool, act: Act) -> Act
     ensures { result ≡ act_of_kind tint act }
 {
     if tint { tinted(act) } else { act }
@@ -294,7 +294,7 @@ fn tinted(act: Act) -> Act
 }
 
 // The plan of the store of a world of this side, where there is one.
-fn plan_of(side: u32, cap: u16, tint: bool) -> Option<Plan>
+pub(crate) fn plan_of(side: u32, cap: u16, tint: bool) -> Option<Plan>
     ensures exactly { IsSome result ↔ AreSideAndCap tint side cap }
     ensures side { IfSome result (λ p. side_of_world tint (2 ^ p.side) ≡ side) }
     ensures large { IfSome result (λ p. IsLargeStore tint p.side) }
@@ -370,7 +370,7 @@ pub(crate) fn read_file(alloc: Global, file: &[u8]) -> Result<Models, u32>
     }
 }
 
-fn status_of_file(fault: VoxFault) -> u32
+pub(crate) fn status_of_file(fault: VoxFault) -> u32
     ensures { result ≡ status_of_file fault }
 {
     match fault {
