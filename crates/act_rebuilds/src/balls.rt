@@ -20,7 +20,7 @@ pub struct BallAct<'w, 'b, B: Lends + Drop> {
     models: &'w DrawnList<B>,
     ball: &'b Ball,
     set: bool,
-    memo: Upper<BallTask<'b>>,
+    memo: Upper<BallTask>,
 }
 
 impl<'w, 'b, B: Lends + Drop> BallAct<'w, 'b, B> {

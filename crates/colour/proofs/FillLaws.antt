@@ -24,7 +24,8 @@ use Rattle.edit_walk.proofs.OfCells.PaintLaws.{chosen}
 use Rattle.edit_walk.specs.Walks.{MakesWorld}
 use Rattle.node_words.specs.descent.Roots.{HoldsRoot}
 use Rattle.edit_ops.specs.Boxes.{MakesBox}
-use Rattle.edit_ops.specs.Balls.{MakesBall, makes_ball}
+use Rattle.edit_ops.specs.Balls.{makes_ball, world_task}
+use Rattle.edit_ops.proofs.BallLaws.{untold}
 use Rattle.history_model.specs.Worlds.{World, plus}
 use Rattle.history_model.specs.Planes.{plane_at, plane_box, tells}
 use Rattle.history_model.specs.Parts.{in_cube, put, part_number, after_parts}
@@ -187,11 +188,12 @@ pub ball_made : (held : List Tree) (level : ℕ) (ball : Ball) (tint k : ℕ) (t
     (old : Option Name) (cells : Cells) → level ≤ 10 → IsOld held level t old
     → SameIn level cells
     (λ x y z. fill_edit (is_in_ball ball) tint k (cell_at x y z) (has level (shape_of t) x y z))
-    → MakesBall old ball (cell_at 0 0 0) (tells k tint) held level cells
+    → makes_ball (world_task old ball (tells k tint)) held level cells
 ball_made held level ball tint k t old cells small o shows =
     record {
       small = small;
       inside = world_lies level small;
+      told = untold ball (cell_at 0 0 0) level;
       paints = painted_by held level t old (is_in_ball ball) tint k cells
           (cells_from (cell_at 0 0 0) (is_in_ball ball)) o
           (from_nowhere level (is_in_ball ball)) shows;

@@ -11,8 +11,6 @@ use node_words::{Full, Name, NodeStore, Share, Steps};
 use std::sync::ledger::Ledger;
 use vw_cell::{Ball, Boxed, Cell, Side};
 
-const ORIGIN: Cell = Cell { x: 0, y: 0, z: 0 };
-
 /// The planes in which the cells of a box get a tint, 0 for none.
 #[derive(Clone, Copy)]
 pub(crate) struct BoxPlanes {
@@ -41,18 +39,13 @@ pub(crate) struct BallPlanes<'b> {
     tint: u8,
 }
 
-impl<'b> Planes<BallTask<'b>> for BallPlanes<'b> {
+impl<'b> Planes<BallTask> for BallPlanes<'b> {
     ghost use Rattle.colour.specs.Fills.{ball_task};
 
     ghost task_of = { ball_task };
 
-    fn task(&self, plane: u8, old: Option<Name>) -> BallTask<'b> {
-        BallTask {
-            old,
-            ball: self.ball,
-            at: ORIGIN,
-            set: tells(plane, self.tint),
-        }
+    fn task(&self, plane: u8, old: Option<Name>) -> BallTask {
+        BallTask::of_world(old, *self.ball, tells(plane, self.tint))
     }
 }
 

@@ -2,31 +2,57 @@ ghost use Rattle.std.specs.Prelude.{◌≡◌, ◌+◌, ◌-◌, ◌*◌, ◌^�
 ghost use Rattle.std.specs.Int.{abs_diff};
 ghost use Rattle.vw_cell.specs.Counts.{cell_at};
 ghost use Rattle.vw_cell.specs.Places.{square, is_in_ball};
+ghost use Rattle.edit_ops.specs.Balls.{world_task};
 
 use crate::boxes::word_of;
 use edit_walk::{Repeats, Task, Whole, clears_nothing, filled, old_whole, paint, side_of};
 use node_words::{Blocks, Name, ball_bits, leaf_bits, octant_name, same_cells, same_names};
 use vw_cell::{Ball, Block, Cell};
 
-/// Sets or clears the cells of a ball in the block at a place of the world. The ball is borrowed
-/// and stands between what differs from block to block: side by side, places would be written in
-/// other widths than they are read in, and the processor would wait.
+/// Whether a place lies in a ball.
 #[derive(Clone, Copy)]
-pub struct BallTask<'b> {
-    pub old: Option<Name>,
-    pub ball: &'b Ball,
-    pub at: Cell,
-    pub set: bool,
+pub enum Reach {
+    Within,
+    Beyond,
 }
 
-impl<'b> Task for BallTask<'b> {
+/// Sets or clears the cells of a ball in the block at a place of the world. What is told of the
+/// block's nearest and farthest places stands in it, so that eight octants whose tasks are told
+/// side by side share the squares of their distances.
+#[derive(Clone, Copy)]
+pub struct BallTask {
+    pub old: Option<Name>,
+    pub ball: Ball,
+    pub at: Cell,
+    pub set: bool,
+    pub near: Reach,
+    pub far: Reach,
+}
+
+impl BallTask {
+    /// The task of the whole world, of which nothing is told.
+    pub fn of_world(old: Option<Name>, ball: Ball, set: bool) -> BallTask
+        ensures { result ≡ world_task old ball set }
+    {
+        BallTask {
+            old,
+            ball,
+            at: Cell { x: 0, y: 0, z: 0 },
+            set,
+            near: Reach::Within,
+            far: Reach::Beyond,
+        }
+    }
+}
+
+impl Task for BallTask {
     ghost use Rattle.std.specs.Prelude.{◌-◌};
     ghost use Rattle.edit_walk.specs.cells.Tasks.{blocks_in};
-    ghost use Rattle.edit_ops.specs.Balls.{MakesBall, ball_lasts};
+    ghost use Rattle.edit_ops.specs.Balls.{makes_ball, ball_lasts};
 
-    ghost makes = { λ t. MakesBall t.old t.ball.now t.at t.set };
+    ghost makes = { makes_ball };
 
-    ghost lasts = { λ t. ball_lasts t.old t.ball.now t.at t.set };
+    ghost lasts = { λ t. ball_lasts t.old t.ball t.at t.set t.near t.far };
 
     ghost mixed = { λ level t. blocks_in level };
 
@@ -37,25 +63,29 @@ impl<'b> Task for BallTask<'b> {
     }
 
     #[inline(always)]
-    fn octant<B: Blocks>(&self, store: &mut B, level: u8, octant: u8) -> BallTask<'b> {
+    fn octant<B: Blocks>(&self, store: &mut B, level: u8, octant: u8) -> BallTask {
         let old = octant_name(store, level, self.old, octant);
         let block = Block { level, at: self.at };
         let part = block.child(octant);
+        let side = side_of(level - 1);
+        let near = near_of(self.ball, part.at, side);
+        let far = far_of(self.ball, part.at, side);
         BallTask {
             old,
             ball: self.ball,
             at: part.at,
             set: self.set,
+            near,
+            far,
         }
     }
 
     #[inline(always)]
-    fn whole(&self, level: u8) -> Whole {
-        let side = side_of(level);
-        if is_outside(*self.ball, self.at, side) {
+    fn whole(&self, _level: u8) -> Whole {
+        if self.near.is_beyond() {
             return old_whole(self.old);
         }
-        if is_inside(*self.ball, self.at, side) {
+        if self.far.is_within() {
             return filled(self.set);
         }
         if clears_nothing(self.set, self.old) {
@@ -67,7 +97,7 @@ impl<'b> Task for BallTask<'b> {
     fn bits<B: Blocks>(&self, store: &mut B) -> u64 {
         let old = leaf_bits(store, self.old);
         let inside = ball_bits(
-            *self.ball,
+            self.ball,
             Block {
                 level: 0,
                 at: self.at,
@@ -77,8 +107,8 @@ impl<'b> Task for BallTask<'b> {
     }
 }
 
-impl<'b> Repeats for BallTask<'b> {
-    fn is_same(&self, other: &BallTask<'b>) -> bool {
+impl Repeats for BallTask {
+    fn is_same(&self, other: &BallTask) -> bool {
         same_tasks(self, other)
     }
 
@@ -88,13 +118,13 @@ impl<'b> Repeats for BallTask<'b> {
 }
 
 fn same_tasks(a: &BallTask, b: &BallTask) -> bool
-    ensures { IsTrue result → (a.now.old ≡ b.now.old) × (a.now.ball.now ≡ b.now.ball.now)
+    ensures { IsTrue result → (a.now.old ≡ b.now.old) × (a.now.ball ≡ b.now.ball)
         × (a.now.at ≡ b.now.at) × (a.now.set ≡ b.now.set) }
 {
     if !same_names(a.old, b.old) {
         return false;
     }
-    if !same_balls(*a.ball, *b.ball) {
+    if !same_balls(a.ball, b.ball) {
         return false;
     }
     if !same_cells(a.at, b.at) {
@@ -116,6 +146,51 @@ fn place_of(level: u8, at: Cell) -> usize
     let at = word_of(at) + u64::from(level);
     let mixed = at.wrapping_mul(0x9E37_79B9_7F4A_7C15);
     (mixed >> 53) as usize % 2048
+}
+
+impl Reach {
+    #[inline(always)]
+    fn is_beyond(self) -> bool
+        ensures { IsTrue result → self ≡ Reach.Beyond }
+    {
+        matches!(self, Reach::Beyond)
+    }
+
+    #[inline(always)]
+    fn is_within(self) -> bool
+        ensures { IsTrue result → self ≡ Reach.Within }
+    {
+        matches!(self, Reach::Within)
+    }
+}
+
+// Where the nearest place of the cube from `at` on lies. Both are told without a branch between
+// them, and so they are told once for all octants with that half of an axis.
+#[inline(always)]
+fn near_of(ball: Ball, at: Cell, side: u32) -> Reach
+    requires side { (1 ≤ side) × (side ≤ 4096) }
+    ensures { result ≡ Reach.Beyond → (x y z : ℕ) → x < side → y < side → z < side
+        → is_in_ball ball (cell_at (at.x + x) (at.y + y) (at.z + z)) ≡ false }
+{
+    if is_outside(ball, at, side) {
+        Reach::Beyond
+    } else {
+        Reach::Within
+    }
+}
+
+// Where the farthest place of the cube from `at` on lies.
+#[inline(always)]
+fn far_of(ball: Ball, at: Cell, side: u32) -> Reach
+    requires side { (1 ≤ side) × (side ≤ 4096) }
+    ensures { result ≡ Reach.Within → (x y z : ℕ) → x < side → y < side → z < side
+        → is_in_ball ball (cell_at (at.x + x) (at.y + y) (at.z + z)) ≡ true }
+{
+    if is_inside(ball, at, side) {
+        Reach::Within
+    } else {
+        Reach::Beyond
+    }
 }
 
 // Whether the nearest place of the cube from `at` on lies outside the ball.

@@ -11,7 +11,7 @@ mod clips;
 mod laws;
 mod rebuild;
 
-pub use balls::BallTask;
+pub use balls::{BallTask, Reach};
 pub use boxes::BoxTask;
 pub use laws::{mixed_blocks_are_the_worlds, tests_tell_what_is_partly_met};
 pub use rebuild::{

@@ -102,11 +102,11 @@ pub fn rebuild_ball<N: NodeStore, L: Ledger>(
 
 /// The same with a memo of blocks that such edits made before, of trees that are still held. Such a
 /// block is shared and not walked again, and what is made joins the memo.
-pub fn rebuild_ball_with<'b, M: Memo<BallTask<'b>>, N: NodeStore, L: Ledger>(
+pub fn rebuild_ball_with<M: Memo<BallTask>, N: NodeStore, L: Ledger>(
     store: &mut N,
     old: Option<&Share>,
     side: Side,
-    ball: &'b Ball,
+    ball: &Ball,
     set: bool,
     memo: &mut M,
     steps: &mut Steps<L>,
@@ -119,12 +119,7 @@ pub fn rebuild_ball_with<'b, M: Memo<BallTask<'b>>, N: NodeStore, L: Ledger>(
     ensures memo { OnOk result (RecallsHeld makes_ball (N.seen store.new).held (M.has memo.new)) }
     ensures rests { N.rests store.old store.new }
 {
-    let task = BallTask {
-        old: name_of(old),
-        ball,
-        at: Cell { x: 0, y: 0, z: 0 },
-        set,
-    };
+    let task = BallTask::of_world(name_of(old), *ball, set);
     let _held = store.held();
     let _level = side.root_level();
     rebuild_world(store, side, &task, memo, steps)

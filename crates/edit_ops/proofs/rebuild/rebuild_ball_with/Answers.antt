@@ -14,8 +14,11 @@ rebuild_world-requires-clause-task g c =
     let l : c.args.side - 2 ≤ 10 = omega arith in
     let v =
     subst (λ (o : Option Name). ShowsWorld held (c.args.side - 2) o before)
-    (sym c.name_of.ensures) w in
-    (edited [] (ball_act c.args.set c.args.ball.now) before, ball_world _ _ held c.args.set c.args.ball.now _ before l c.held-held.ensures.trees c.held-held.ensures.canonical v)
+    (sym c.name_of.ensures) w in (
+      edited [] (ball_act c.args.set c.args.ball.now) before,
+      ball_world _ _ held c.args.set c.args.ball.now _ c.of_world-task.result before
+          c.of_world-task.ensures l c.held-held.ensures.trees c.held-held.ensures.canonical v,
+    )
 
 pub returns-clause-made : goal.returns-clause-made
 returns-clause-made g c before w =
@@ -25,4 +28,5 @@ returns-clause-made g c before w =
     subst (λ (o : Option Name). ShowsWorld held (c.args.side - 2) o before)
     (sym c.name_of.ensures) w in
     c.rebuild_world.ensures.made (edited [] (ball_act c.args.set c.args.ball.now) before)
-    (ball_world _ _ held c.args.set c.args.ball.now _ before l c.held-held.ensures.trees c.held-held.ensures.canonical v)
+    (ball_world _ _ held c.args.set c.args.ball.now _ c.of_world-task.result before
+    c.of_world-task.ensures l c.held-held.ensures.trees c.held-held.ensures.canonical v)
