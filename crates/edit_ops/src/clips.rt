@@ -8,7 +8,7 @@ use node_words::{Blocks, Name, ball_bits, box_bits, leaf_bits, octant_name};
 use vw_cell::{Ball, Block, Boxed, Cell};
 
 /// Sets or clears the cells of a ball that lie in a box, in the block at a place of the world. What
-/// all blocks have in common is borrowed, as by the task of a ball.
+/// all blocks have in common is borrowed.
 #[derive(Clone, Copy)]
 pub struct ClipTask<'b> {
     pub(crate) old: Option<Name>,
