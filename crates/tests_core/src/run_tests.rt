@@ -92,11 +92,6 @@ fn are_same(replies: &[Reply], wanted: &[Reply]) -> bool {
     true
 }
 
-fn are_wanted(replies: &[Reply]) -> bool {
-    let wanted = WANTED;
-    are_same(replies, &wanted)
-}
-
 // The core after the events, with two slots in a bucket.
 fn ran(alloc: Global, models: &Models) -> Result<Ran<'_>, Fail> {
     let plan = plan_of(8, 1, 2)?;
@@ -109,8 +104,14 @@ fn ran(alloc: Global, models: &Models) -> Result<Ran<'_>, Fail> {
 fn the_events_of_a_script_have_their_replies(rt: HostRuntime) -> Result<(), Fail> {
     let models = no_models(rt.alloc());
     let Ran { mut core, replies } = ran(rt.alloc(), &models)?;
-    assert!(rt; are_wanted(replies.as_slice()));
+    let replies = replies.as_slice();
+    let wanted = WANTED;
+    assert!(rt;
+        are_same(replies, &wanted),
+        "{replies:?}, wanted are {wanted:?}"
+    );
     let kept = core.apply(rt.alloc(), &Event::Pin(1, Some(3)))?;
-    assert!(rt; is_same(&kept, &Reply::Pinned(3, 4, Some(OTHER_NODE))));
+    let want = Reply::Pinned(3, 4, Some(OTHER_NODE));
+    assert!(rt; is_same(&kept, &want), "{kept:?}, wanted is {want:?}");
     Ok(())
 }

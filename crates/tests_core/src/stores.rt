@@ -5,7 +5,7 @@
 mod looks;
 mod worlds;
 
-pub use looks::{Counted, fault_in, look_at};
+pub use looks::{Counted, fault_in, look_at, versions_of};
 pub use worlds::full_world_file;
 
 #[cfg(test)]

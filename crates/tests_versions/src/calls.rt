@@ -23,7 +23,7 @@ use version_log::{
 };
 
 /// A version that was pinned, the length then, and its root, which went back.
-#[derive(Clone, Copy, PartialEq, Eq)]
+#[derive(Clone, Copy, Debug, PartialEq, Eq)]
 pub struct WasPinned {
     pub version: u32,
     pub moment: u32,
@@ -168,7 +168,7 @@ pub fn forget_at<R: Wait, L: Ledger>(
 }
 
 /// How an undo or a redo went.
-#[derive(Clone, Copy, PartialEq, Eq)]
+#[derive(Clone, Copy, Debug, PartialEq, Eq)]
 pub enum Went {
     To(u32, u32),
     Nowhere,

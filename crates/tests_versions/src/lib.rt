@@ -9,6 +9,8 @@ mod edits;
 #[cfg(test)]
 mod endings;
 #[cfg(test)]
+mod guards;
+#[cfg(test)]
 mod rows;
 #[cfg(test)]
 mod threads;

@@ -1,4 +1,4 @@
-use crate::stores::{Counted, fault_in, full_world_file, look_at};
+use crate::stores::{Counted, fault_in, full_world_file, look_at, versions_of};
 use std::test::Fail;
 
 /// A file of a world of 8 cells: version 0 is empty, and all cells of version 1 are set.
@@ -32,6 +32,24 @@ fn what_a_file_says_of_its_versions(rt: HostRuntime) {
     assert_eq!(rt; look_at(rt.alloc(), SIXTEEN, 5), Counted::Cells(9));
     assert_eq!(rt; look_at(rt.alloc(), SIXTEEN, 1), Counted::NoVersion);
     assert_eq!(rt; look_at(rt.alloc(), b"VDAG", 0), Counted::NoFile);
+}
+
+/// A file of a world of 4 cells without a version, so that it has no leaf.
+const NONE: &[u8] = b"VDAG\x01\0\0\0\x04\0\0\0\0\0\0\0\0\0\0\0";
+
+/// Files, and how many versions each has. What is no file has none.
+const VERSIONS: &[(&[u8], Option<u32>)] = &[
+    (NONE, Some(0)),
+    (FULL, Some(2)),
+    (SIXTEEN, Some(3)),
+    (b"VDAG", None),
+];
+
+#[test]
+fn files_have_so_many_versions(rt: HostRuntime) {
+    for &(bytes, number) in VERSIONS {
+        assert_eq!(rt; versions_of(rt.alloc(), bytes), number);
+    }
 }
 
 /// The place, the byte put there, and where the file is refused then, if at all: the mark, the 1,

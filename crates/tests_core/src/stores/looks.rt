@@ -18,6 +18,14 @@ pub fn fault_in(alloc: Global, bytes: &[u8]) -> Option<u64> {
     }
 }
 
+/// How many versions a file has, where it is one.
+pub fn versions_of(alloc: Global, bytes: &[u8]) -> Option<u32> {
+    match DagView::read(alloc, bytes) {
+        Ok(view) => Some(view.versions()),
+        Err(_) => None,
+    }
+}
+
 /// What a file tells of a version: that it hasn't it, or how many cells of the world it sets.
 #[derive(Clone, Copy, Debug, PartialEq, Eq)]
 pub enum Counted {

@@ -47,35 +47,39 @@ fn answers<L: Ledger>(
     }
 }
 
-// How many calls of a table aren't answered as they should be.
-fn wrong_answers<L: Ledger>(
+/// A call of a table that isn't answered as it should be, by its number, and its answer.
+type Wrong = Option<(usize, Result<Name, Full>)>;
+
+// The first wrong one.
+fn wrong_answer<L: Ledger>(
     store: &mut OneStore,
     calls: &[(Call, u64, u8, Option<u8>)],
     steps: &mut Steps<L>,
-) -> u32
+) -> Wrong
     requires { 3 ≤ store.old.words.plan.side }
 {
-    let mut wrong: u32 = 0;
     for k in 0..calls.len() {
         let (call, bits, level, slot) = calls[k];
         let answer = answers(store, call, bits, steps);
-        wrong = wrong.saturating_add(u32::from(!is_at(answer, level, slot)));
+        if !is_at(answer, level, slot) {
+            return Some((k, answer));
+        }
     }
-    wrong
+    None
 }
 
 fn table_of<L: Ledger>(
     store: &mut OneStore,
     calls: &[(Call, u64, u8, Option<u8>)],
     blank: Blank,
-) -> u32
+) -> Wrong
     requires name { blank.name ≡ L.name }
     requires parts { blank.parts ≡ L.parts }
     requires some { 0 < L.parts }
     requires side { 3 ≤ store.old.words.plan.side }
 {
     let mut steps: Steps<L> = Steps::start(blank);
-    wrong_answers(store, calls, &mut steps)
+    wrong_answer(store, calls, &mut steps)
 }
 
 // One bucket of two slots on each level.
@@ -98,7 +102,7 @@ fn keys_come_into_the_lowest_free_slot(rt: HostRuntime) -> Result<(), Fail> {
     let plan = Plan::even(side, 1, 2).ok_or("a plan")?;
     let mut store = OneStore::begin(rt.alloc(), &plan)?;
     let wrong = table_of::<Brand>(&mut store, &calls, Blank::new(1));
-    assert_eq!(rt; wrong, 0);
+    assert_eq!(rt; wrong, None);
     Ok(())
 }
 
