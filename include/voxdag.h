@@ -457,8 +457,7 @@ static inline voxdag_status voxdag_surface(voxdag_world *w, uint32_t version, co
 /* The cells of a box of a version that ways through its clear cells join with `from`, a cell of the
  * box: *cells is how many, with OK and with TOO_SMALL, and the VOX file has them as its one model's,
  * of the box's size: at most 256 on each axis (OUTSIDE where it is more). None where that cell is set.
- * OTHER_KIND exactly where the world has tints. IS_CLOSED, OUTSIDE, NO_VERSION and FORGOTTEN as of
- * questions. */
+ * IS_CLOSED, OUTSIDE, NO_VERSION and FORGOTTEN as of questions. */
 static inline voxdag_status voxdag_flood(voxdag_world *w, uint32_t version, const voxdag_box *part, const voxdag_place *from,
                                          uint64_t *cells, uint8_t *out, size_t size, size_t *needed)
 {

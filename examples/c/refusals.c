@@ -380,7 +380,9 @@ static int tints(void)
     SAYS(VOXDAG_OK, voxdag_ball_tint(&w, &in, 0, 255)); SAYS(VOXDAG_OK, voxdag_colour(&w, 4, &in, &tint)); IS(tint == 255);
     SAYS(VOXDAG_OK, voxdag_carve(&w, &in, 0)); SAYS(VOXDAG_OK, voxdag_colour(&w, 5, &in, &tint)); IS(tint == 0);
     SAYS(VOXDAG_OTHER_KIND, voxdag_changes(&w, 9, 9, &same, &least)); SAYS(VOXDAG_OTHER_KIND, voxdag_surface(&w, 9, &far, seen, 8, &needed));
-    n = 8; SAYS(VOXDAG_OTHER_KIND, voxdag_flood(&w, 9, &far, &in, &n, out, sizeof out, &needed)); IS(n == 8 && needed == 92);
+    n = 8; SAYS(VOXDAG_OUTSIDE, voxdag_flood(&w, 9, &far, &in, &n, out, sizeof out, &needed)); IS(n == 8 && needed == 92);
+    SAYS(VOXDAG_OK, voxdag_flood(&w, 4, &part, &in, &n, out, sizeof out, &needed)); IS(n == 0 && needed == 60);
+    SAYS(VOXDAG_OK, voxdag_flood(&w, 5, &part, &in, &n, out, sizeof out, &needed)); IS(n == 1 && needed == 64);
     SAYS(VOXDAG_OK, voxdag_close(&w));
     return 0;
 }

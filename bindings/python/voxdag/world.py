@@ -359,8 +359,7 @@ class World:
         return self._bytes(lambda out, size, needed: self._call("dag", out, size, needed))
 
     def flood(self, version: int, box: Sequence[int], start: Sequence[int]) -> tuple[int, bytes]:
-        """The unset cells of a box, at most 256 each way, that steps from a cell lead to: how many, and their VOX file. For
-        worlds without tints."""
+        """The unset cells of a box, at most 256 each way, that steps from a cell lead to: how many, and their VOX file."""
         number, part, place, cells = _number(version), _box(box), _place(start), c.c_uint64()
         file = self._bytes(lambda out, size, needed: self._call("flood", number, part, place, c.byref(cells), out, size, needed))
         return cells.value, file

@@ -445,7 +445,7 @@ impl World {
         whole(|out, size, needed| unsafe { voxdag_save(handle, version, &part, out, size, needed) })
     }
 
-    /// How many unset cells of a box steps from a cell lead to, and their VOX file. For worlds without tints.
+    /// How many unset cells of a box steps from a cell lead to, and their VOX file.
     #[cfg(voxdag = "flood")]
     pub fn flood(&mut self, version: u32, part: Boxed, from: Place) -> Answer<(u64, Vec<u8>)> {
         let (handle, mut cells) = (&mut self.0, 0);

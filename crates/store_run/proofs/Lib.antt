@@ -21,3 +21,4 @@ pub mod Taken
 pub mod Listed
 pub mod Lent
 pub mod TintFiles
+pub mod Flooding

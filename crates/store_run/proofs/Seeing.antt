@@ -143,7 +143,7 @@ joined_among : (P Q : Cell → Type 0) → ((c : Cell) → P c → Q c) → (a q
     → IsJoined Q a q
 joined_among P Q f a q j = record { more = j.more; way = path_among P Q f a j.more q j.way }
 
-region_same : (side : ℕ) (v w : World) → SameWorld side v w → (b : Boxed) (from : Cell)
+pub region_same : (side : ℕ) (v w : World) → SameWorld side v w → (b : Boxed) (from : Cell)
     (number : ℕ) (file : List ℕ) → FitsAt b.at b.size side → FilesRegion b from number file v
     → FilesRegion b from number file w
 region_same side v w same b from number file fits files =

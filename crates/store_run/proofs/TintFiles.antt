@@ -130,7 +130,7 @@ module _ (v : Versions) (version : ℕ) (base : Option Name) (part : Boxed)
   same_root : SameWorld (2 ^ v.side) cells (stored_of v version)
   same_root = root_same v.store.told.held v.side base (stored_of v version) shown
 
-  same_cells : SameWorld quarter cells (world_of v version)
+  pub same_cells : SameWorld quarter cells (world_of v version)
   same_cells =
       here quarter (2 ^ v.side) (sym (whole_again v.side large)) cells (stored_of v version)
       (world_of v version) (tints_of v version) same_root (keeps_tints v are tinted version)

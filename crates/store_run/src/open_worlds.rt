@@ -283,9 +283,9 @@ impl OpenWorld {
         surface_over::<Brand>(&mut self.versions, alloc, version, part, Blank::new(1))
     }
 
-    /// The cells of a box of a version of a world without tints that ways through its clear cells
+    /// The cells of a box of a version that ways through its clear cells
     /// join with one of its cells: how many they are, and their VOX file.
-    #[tactic(auto, using(crate::proofs::Opening::rests_plain, crate::proofs::Opening::rests_stored))]
+    #[tactic(auto, using(crate::proofs::Flooding::box_here))]
     pub fn flood(
         &mut self,
         alloc: Global,
@@ -293,9 +293,9 @@ impl OpenWorld {
         part: Boxed,
         from: Cell,
     ) -> Result<RegionFile, Memory>
-        requires plain { self.old.log.coloured ≡ false }
         requires kept { HoldsVersion self.old.log version }
-        requires inside { FitsAt part.at part.size (2 ^ self.old.plan.side) }
+        requires inside { FitsAt part.at part.size
+            (side_of_world self.old.log.coloured (2 ^ self.old.plan.side)) }
         requires small { (part.size.x ≤ 256) × (part.size.y ≤ 256) × (part.size.z ≤ 256) }
         requires from { IsInBox part from }
         ensures file { IfOk result (λ r. FilesRegion part from r.cells r.file.items

@@ -569,10 +569,9 @@ pub extern "C" fn voxdag_c_flood(
 ) -> u32
     ensures { ByHandle
         ((cells.new ≡ cells.old) × WritesNothing out.old out.new needed.old needed.new)
-        (λ w status v. (v ≡ w) × ByKind false w
-        ((cells.new ≡ cells.old) × WritesNothing out.old out.new needed.old needed.new)
-        (WorldFloods w version (box_of part.now) (cell_of_c_place from.now) cells.old cells.new
-        out.old out.new needed.old needed.new) status)
+        (λ w status v. (v ≡ w)
+        × WorldFloods w version (box_of part.now) (cell_of_c_place from.now) cells.old cells.new
+        out.old out.new needed.old needed.new status)
         handle.old.kept.value result handle.new.kept.value }
 {
     match handle.take(alloc) {

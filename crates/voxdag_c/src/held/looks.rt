@@ -117,31 +117,6 @@ impl CWorld {
         out: &mut [u8],
         needed: &mut usize,
     ) -> u32
-        ensures floods { ByKind false self.old
-            ((cells.new ≡ cells.old) × WritesNothing out.old out.new needed.old needed.new)
-            (WorldFloods self.old version (box_of part) (cell_of_c_place from)
-            cells.old cells.new out.old out.new needed.old needed.new) result }
-        ensures room { length out.new ≡ length out.old }
-        ensures same { self.new ≡ self.old }
-    {
-        if self.open.tint() {
-            return status::OTHER_KIND;
-        }
-        self.plain_flood(alloc, version, part, from, cells, out, needed)
-    }
-
-    // The same of a world without tints.
-    fn plain_flood(
-        &mut self,
-        alloc: Global,
-        version: u32,
-        part: CBox,
-        from: CPlace,
-        cells: &mut u64,
-        out: &mut [u8],
-        needed: &mut usize,
-    ) -> u32
-        requires plain { self.old.open.log.coloured ≡ false }
         ensures floods { WorldFloods self.old version (box_of part) (cell_of_c_place from)
             cells.old cells.new out.old out.new needed.old needed.new result }
         ensures room { length out.new ≡ length out.old }
