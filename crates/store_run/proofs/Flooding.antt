@@ -18,9 +18,8 @@ use Rattle.store_run.specs.declared.stored_versions.Versions.{Versions}
 use Rattle.store_run.specs.Kept.{log_of, stored_of, world_of, AreStoredVersions, HoldsTree}
 use Rattle.store_run.specs.Steps.{side_of}
 use Rattle.store_run.specs.Worlds.{WorldState, world_state, AreStoredAtRest}
-use Rattle.store_run.proofs.Rebuilding.{share_shows}
 use Rattle.store_run.proofs.Seeing.{region_same, root_region}
-use Rattle.store_run.proofs.TintFiles.{same_cells}
+use Rattle.store_run.proofs.TintFiles.{same_cells, shown}
 
 -- a box of the world lies in the store's side
 within : (tint : Bool) (side : ℕ) (b : Boxed)
@@ -58,11 +57,11 @@ module _ {E : Type 0} (v : Versions) (version : ℕ) (base : Option Name) (part 
       → FitsAt part.at part.size (2 ^ v.side / 4) → IsTold result → IsOfWorld result
   tinted_region (Err e) tinted fits told = tt
   tinted_region (Ok r) tinted fits told =
-      let shown = share_shows v version base are kept holds is in
-      region_same (2 ^ v.side / 4) (cells_of (v.side - 2) (shape_of shown.tree))
-      (world_of v version) (same_cells v version base part are tinted kept holds is fits) part
+      let whole = shown v version base are tinted kept holds is in
+      region_same (2 ^ v.side / 4) (cells_of (v.side - 2) (shape_of whole.tree))
+      (world_of v version) (same_cells v version base are tinted kept holds is) part
       from r.cells r.file.items fits
-      (told shown.tree (root_block v.store.told.held v.side base (stored_of v version) shown))
+      (told whole.tree (root_block v.store.told.held v.side base (stored_of v version) whole))
 
   by_kind : (result : Result RegionFile E) (tint : Bool) → v.models.tint ≡ tint
       → FitsAt part.at part.size (side_of_world tint (2 ^ v.side)) → IsTold result

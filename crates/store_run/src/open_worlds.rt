@@ -25,6 +25,7 @@ ghost use Rattle.store_run.specs.Answering.{ExtendsBy};
 ghost use Rattle.store_run.specs.Changing.{Changes, AnswersForget, MakesVersion};
 ghost use Rattle.store_run.specs.Kept.{log_of, moment_of, world_of, HasRecordRoom, AreVersions, HoldsTree, IsLargeStore};
 ghost use Rattle.store_run.specs.Steps.{LeavesAll, StaysSeen, AnswersHeldVersion, side_of};
+ghost use Rattle.store_run.specs.TintChanges.{tints_differ};
 ghost use Rattle.store_run.specs.TintFiles.{file_of_tints};
 ghost use Rattle.store_run.specs.Worlds.{AreVersionsAtRest, AreStoredAtRest, size_of, world_state};
 
@@ -246,14 +247,16 @@ impl OpenWorld {
         tint_file_over::<Brand>(&mut self.versions, alloc, version, part, Blank::new(1))
     }
 
-    /// The least box of all cells in which two versions of a world without tints differ, and none
-    /// exactly where none does.
-    #[tactic(auto, using(crate::proofs::Comparing::changes_told, crate::proofs::Opening::rests_plain, crate::proofs::Opening::rests_stored))]
+    /// The least box of all cells whose tints differ in two versions, and none exactly where none
+    /// do: of all cells that differ, where cells have no tints.
+    #[tactic(auto, using(crate::proofs::TintComparing::changes_told, crate::proofs::TintComparing::changes_plain))]
     pub fn changes(&mut self, v: u32, w: u32) -> Option<Boxed>
-        requires plain { self.old.log.coloured ≡ false }
         requires first { HoldsVersion self.old.log v }
         requires second { HoldsVersion self.old.log w }
-        ensures extent { IsExtent (2 ^ self.old.plan.side)
+        ensures tints { IsExtent (side_of_world self.old.log.coloured (2 ^ self.old.plan.side))
+            (tints_differ (world_tint self.old.models self.old.log.records v)
+            (world_tint self.old.models self.old.log.records w)) result }
+        ensures cells { self.old.log.coloured ≡ false → IsExtent (2 ^ self.old.plan.side)
             (differs (world_has self.old.models self.old.log.records v)
             (world_has self.old.models self.old.log.records w)) result }
         ensures same { self.new ≡ self.old }
