@@ -495,8 +495,8 @@ pub extern "C" fn voxdag_c_dag(
     }
 }
 
-/// The least box of all cells in which two versions of a world without tints differ, where they
-/// do.
+/// The least box of all cells whose tints differ in two versions, where any do: of all cells that
+/// differ, where cells have no tints.
 #[tactic(auto, using(crate::proofs::Through::through_closed, crate::proofs::Through::through_open))]
 #[unsafe(no_mangle)]
 pub extern "C" fn voxdag_c_changes(
@@ -508,11 +508,11 @@ pub extern "C" fn voxdag_c_changes(
     least: &mut CBox,
 ) -> u32
     ensures { ByHandle ((some.new ≡ some.old) × (least.new ≡ least.old))
-        (λ w status v. (v ≡ w) × ByKind false w ((some.new ≡ some.old) × (least.new ≡ least.old))
-        (WorldDiffers w a b
+        (λ w status v. (v ≡ w)
+        × WorldDiffers w a b
         (λ found. (found ≡ extent_of some.new least.new)
         × (some.new ≡ false → least.new ≡ least.old))
-        ((some.new ≡ some.old) × (least.new ≡ least.old))) status)
+        ((some.new ≡ some.old) × (least.new ≡ least.old)) status)
         handle.old.kept.value result handle.new.kept.value }
 {
     match handle.take(alloc) {
@@ -553,8 +553,8 @@ pub extern "C" fn voxdag_c_surface(
     }
 }
 
-/// The region of a box of a version of a world without tints that is connected with a cell: how
-/// many cells, and its VOX file.
+/// The region of a box of a version that is connected with a cell: how many cells, and its VOX
+/// file.
 #[tactic(auto, using(crate::proofs::Through::through_closed, crate::proofs::Through::through_open))]
 #[unsafe(no_mangle)]
 pub extern "C" fn voxdag_c_flood(

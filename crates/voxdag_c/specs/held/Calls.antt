@@ -40,6 +40,7 @@ use Rattle.conformance.specs.Kinds.{answer_at}
 use Rattle.conformance.specs.QuestionAnswers.{AnswersTo}
 use Rattle.conformance.specs.scripts.Sessions.{ExtendsWith}
 use Rattle.store_run.specs.Changing.{Changes, AnswersForget, MakesVersion}
+use Rattle.store_run.specs.TintChanges.{tints_differ}
 use Rattle.store_run.specs.TintFiles.{file_of_tints}
 use Rattle.store_run.specs.Worlds.{size_of}
 use Rattle.voxdag_c.specs.declared.held.places.CPlace.{CPlace}
@@ -317,11 +318,14 @@ pub data WorldJournals (w : CWorld) (old new : List ℕ) (before needed : ℕ) :
 
 -- ---- two versions beside each other, and what can be seen of one
 
--- the least box of all cells that one of two versions has and the other hasn't, where there are any
+-- the least box of all cells whose tints differ in two versions, where there are any: of all that
+-- one has and the other hasn't, where cells have no tints
 pub data WorldDiffers (w : CWorld) (a b : ℕ) (Written : Option Boxed → Type 0)
     (Untouched : Type 0) : ℕ → Type 0 where
   told : (least : Option Boxed) → HoldsVersion w.open.log a → HoldsVersion w.open.log b
-      → IsExtent (held_side w) (differs (cells_of_version w a) (cells_of_version w b)) least
+      → IsExtent (held_side w) (tints_differ (tints_at w a) (tints_at w b)) least
+      → (w.open.log.coloured ≡ false
+      → IsExtent (held_side w) (differs (cells_of_version w a) (cells_of_version w b)) least)
       → Written least → WorldDiffers w a b Written Untouched 0
   first : (status : ℕ) → IsGone w.open.log a status → Untouched
       → WorldDiffers w a b Written Untouched status

@@ -14,26 +14,9 @@ use std::alloc::Global;
 use vw_cell::{Boxed, Cell};
 
 impl CWorld {
-    /// The least box of all cells in which two versions of a world without tints differ, where they
-    /// do.
+    /// The least box of all cells whose tints differ in two versions, where any do: of all cells
+    /// that differ, where cells have no tints.
     pub fn changes(&mut self, a: u32, b: u32, some: &mut bool, least: &mut CBox) -> u32
-        ensures differs { ByKind false self.old
-            ((some.new ≡ some.old) × (least.new ≡ least.old))
-            (WorldDiffers self.old a b
-            (λ found. (found ≡ extent_of some.new least.new)
-            × (some.new ≡ false → least.new ≡ least.old))
-            ((some.new ≡ some.old) × (least.new ≡ least.old))) result }
-        ensures same { self.new ≡ self.old }
-    {
-        if self.open.tint() {
-            return status::OTHER_KIND;
-        }
-        self.plain_changes(a, b, some, least)
-    }
-
-    // The same of a world without tints.
-    fn plain_changes(&mut self, a: u32, b: u32, some: &mut bool, least: &mut CBox) -> u32
-        requires plain { self.old.open.log.coloured ≡ false }
         ensures differs { WorldDiffers self.old a b
             (λ found. (found ≡ extent_of some.new least.new)
             × (some.new ≡ false → least.new ≡ least.old))
@@ -106,7 +89,7 @@ impl CWorld {
 
     /// Writes the VOX file of the cells of a box of a version that ways through its clear cells
     /// join with one of its cells, where there is room for it, and says how many cells and how
-    /// many bytes these are. The box has 256 cells a side at most, and the world no tints.
+    /// many bytes these are. The box has 256 cells a side at most.
     pub fn flood(
         &mut self,
         alloc: Global,
