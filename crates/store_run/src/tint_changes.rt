@@ -67,12 +67,7 @@ fn bit_changes<B: Blocks>(
 }
 
 // What stands in the plane of a bit.
-fn plane_of<B: Blocks>(
-    store: &mut B,
-    root: Option<&Share>,
-    side: Side,
-    bit: u8,
-) -> Option<Name>
+fn plane_of<B: Blocks>(store: &mut B, root: Option<&Share>, side: Side, bit: u8) -> Option<Name>
     requires root { HoldsRoot (B.seen store.old).held side (option_copied root) }
     requires large { 4 ≤ side }
     requires bit { bit < 8 }
