@@ -410,9 +410,9 @@ static inline voxdag_status voxdag_same(voxdag_world *w, uint32_t a, uint32_t b,
     return status;
 }
 
-/* The least box of all cells that one of two versions has and the other hasn't. *some: whether there
- * are any; where not, *least stays. The two versions come in any order. OTHER_KIND exactly where the
- * world has tints. */
+/* The least box of all cells that one of two versions has and the other hasn't, and in a world with
+ * tints of all whose tints differ. *some: whether there are any; where not, *least stays. The two
+ * versions come in any order. */
 static inline voxdag_status voxdag_changes(voxdag_world *w, uint32_t a, uint32_t b, bool *some, voxdag_box *least)
 {
     bool are = false;

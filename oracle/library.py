@@ -34,7 +34,7 @@ QUESTIONS = {
 }
 NEEDS = {"surface_bytes": "surface", "tints": "save", "go_on": "open_journal"}
 # What the library answers of worlds without tints alone.
-PLAIN = ("changes", "surface_bytes")
+PLAIN = ("surface_bytes",)
 
 
 class Differs(Exception):

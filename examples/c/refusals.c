@@ -379,7 +379,11 @@ static int tints(void)
     SAYS(VOXDAG_OK, voxdag_same(&w, 1, 3, &same)); IS(same);
     SAYS(VOXDAG_OK, voxdag_ball_tint(&w, &in, 0, 255)); SAYS(VOXDAG_OK, voxdag_colour(&w, 4, &in, &tint)); IS(tint == 255);
     SAYS(VOXDAG_OK, voxdag_carve(&w, &in, 0)); SAYS(VOXDAG_OK, voxdag_colour(&w, 5, &in, &tint)); IS(tint == 0);
-    SAYS(VOXDAG_OTHER_KIND, voxdag_changes(&w, 9, 9, &same, &least)); SAYS(VOXDAG_OTHER_KIND, voxdag_surface(&w, 9, &far, seen, 8, &needed));
+    SAYS(VOXDAG_OTHER_KIND, voxdag_surface(&w, 9, &far, seen, 8, &needed));
+    SAYS(VOXDAG_NO_VERSION, voxdag_changes(&w, 5, 6, &same, &least)); SAYS(VOXDAG_NO_VERSION, voxdag_changes(&w, 9, 0, &same, &least));
+    SAYS(VOXDAG_OK, voxdag_changes(&w, 1, 2, &same, &least)); IS(same && least.at.x == 0 && least.at.z == 0 && least.size.x == 2 && least.size.z == 2);
+    SAYS(VOXDAG_OK, voxdag_changes(&w, 1, 3, &same, &least)); IS(!same && least.size.x == 2);
+    SAYS(VOXDAG_OK, voxdag_changes(&w, 4, 3, &same, &least)); IS(same && least.at.x == 1 && least.at.y == 1 && least.at.z == 1 && least.size.x == 1 && least.size.y == 1 && least.size.z == 1);
     n = 8; SAYS(VOXDAG_OUTSIDE, voxdag_flood(&w, 9, &far, &in, &n, out, sizeof out, &needed)); IS(n == 8 && needed == 92);
     SAYS(VOXDAG_OK, voxdag_flood(&w, 4, &part, &in, &n, out, sizeof out, &needed)); IS(n == 0 && needed == 60);
     SAYS(VOXDAG_OK, voxdag_flood(&w, 5, &part, &in, &n, out, sizeof out, &needed)); IS(n == 1 && needed == 64);

@@ -296,7 +296,7 @@ class World:
         return is_same.value
 
     def changes(self, a: int, b: int) -> Optional[Box]:
-        """The least box of all cells that differ between two versions of a world without tints, or None where none do."""
+        """The least box of all cells that differ between two versions, by their tints too, or None where none do."""
         some, least = c.c_bool(), CBox()
         self._call("changes", _number(a), _number(b), c.byref(some), c.byref(least))
         return _six(least) if some.value else None

@@ -409,7 +409,7 @@ impl World {
         Ok(some.then_some(least))
     }
 
-    /// The least box of all cells that differ between two versions of a world without tints, where some do.
+    /// The least box of all cells that differ between two versions, by their tints too, where some do.
     #[cfg(voxdag = "changes")]
     pub fn changes(&mut self, a: u32, b: u32) -> Answer<Option<Boxed>> {
         let (mut some, mut least) = (false, Boxed::default());
