@@ -24,3 +24,4 @@ pub mod TintFiles
 pub mod TintChanges
 pub mod TintComparing
 pub mod Flooding
+pub mod SeenCells

@@ -48,12 +48,12 @@ same_voxels b f g same =
     joined-same b.size.x _ _ (λ x of_x.
     ap (λ (set : Bool). voxel_if set (0 + x) y z) (same x y z of_x of_y of_z))))
 
-mapped_same : (f g : Voxel → Voxel) (vs : List Voxel) → All (λ v. f v ≡ g v) vs
+pub mapped_same : {X : Type 0} (f g : Voxel → X) (vs : List Voxel) → All (λ v. f v ≡ g v) vs
     → map f vs ≡ map g vs
 mapped_same f g [] all = refl
-mapped_same f g (v ∷ vs) all =
-    ap (λ (u : Voxel). u ∷ map f vs) (All-head (λ u. f u ≡ g u) v vs all)
-    ∙ ap (λ (us : List Voxel). g v ∷ us)
+mapped_same {X} f g (v ∷ vs) all =
+    ap (λ (u : X). u ∷ map f vs) (All-head (λ u. f u ≡ g u) v vs all)
+    ∙ ap (λ (us : List X). g v ∷ us)
     (mapped_same f g vs (All-tail (λ u. f u ≡ g u) v vs all))
 
 mapped_long : (f : Voxel → Voxel) (vs : List Voxel) → length (map f vs) ≡ length vs

@@ -525,8 +525,7 @@ pub extern "C" fn voxdag_c_changes(
     }
 }
 
-/// The cells of a box of a version of a world without tints that can be seen, and how many they
-/// are.
+/// The cells of a box of a version that can be seen, each with its tint, and how many they are.
 #[tactic(auto, using(crate::proofs::Through::through_closed, crate::proofs::Through::through_open))]
 #[unsafe(no_mangle)]
 pub extern "C" fn voxdag_c_surface(
@@ -539,8 +538,7 @@ pub extern "C" fn voxdag_c_surface(
 ) -> u32
     ensures { ByHandle (WritesNothing out.old out.new needed.old needed.new)
         (λ w status v. (v ≡ w)
-        × ByKind false w (WritesNothing out.old out.new needed.old needed.new)
-        (WorldShows w version (box_of part.now) out.old out.new needed.old needed.new) status)
+        × WorldShows w version (box_of part.now) out.old out.new needed.old needed.new status)
         handle.old.kept.value result handle.new.kept.value }
 {
     match handle.take(alloc) {

@@ -100,7 +100,7 @@ module _ (n whole : ℕ) (four : whole ≡ 4 * n) (cells stored w : World) (t : 
       → cells q ≡ false
   outside q low i out = kept_here.rest q i (planes_later n q low out)
 
-  next_here : (d : Direction) (c : Cell) → IsInWorld n c
+  pub next_here : (d : Direction) (c : Cell) → IsInWorld n c
       → has_next d whole cells c ≡ has_next d n w c
   next_here LowX c i =
       where_passed (nat_lt 0 c.x) _ _ (λ e.

@@ -46,7 +46,7 @@ use Rattle.store_run.specs.Worlds.{size_of}
 use Rattle.voxdag_c.specs.declared.held.places.CPlace.{CPlace}
 use Rattle.voxdag_c.specs.declared.held.shown.CShown.{CShown}
 use Rattle.voxdag_c.specs.declared.held.worlds.CWorld.{CWorld}
-use Rattle.voxdag_c.specs.held.Places.{cell_of_c_place, shown_of}
+use Rattle.voxdag_c.specs.held.Places.{cell_of_c_place, ones, shown_of}
 
 -- the world's side in cells, that of its store, which cells a version has, and their tints
 abbrev pub held_side : CWorld → ℕ
@@ -332,11 +332,17 @@ pub data WorldDiffers (w : CWorld) (a b : ℕ) (Written : Option Boxed → Type 
   second : (status : ℕ) → HoldsVersion w.open.log a → IsGone w.open.log b status → Untouched
       → WorldDiffers w a b Written Untouched status
 
+-- the tints that are told of set cells: their own, or 1 where cells have none
+abbrev pub tints_by_kind : Bool → Tints → Tints
+tints_by_kind true held = held
+tints_by_kind false held = ones
+
 -- the set cells of a box of a version at whose side an unset cell or the world's outside is, in
--- saving order
+-- saving order, each with its tint
 abbrev pub surface_of_version : CWorld → ℕ → Boxed → List CShown
 surface_of_version w version part =
-    map shown_of (surface_of_box (held_side w) (cells_of_version w version) part)
+    map (shown_of (tints_by_kind w.open.log.coloured (tints_at w version)) part.at)
+    (surface_of_box (held_side w) (cells_of_version w version) part)
 
 -- these cells are written
 pub data WorldShows (w : CWorld) (version : ℕ) (part : Boxed) (old new : List CShown)
