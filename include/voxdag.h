@@ -443,9 +443,9 @@ static inline voxdag_status voxdag_save(voxdag_world *w, uint32_t version, const
 }
 
 /* The set cells of a box of a version that have an unset cell or the world's outside beside them, by
- * rising z, then y, then x. Here *needed and `room` count cells. The box has at most 256 on each axis
- * (OUTSIDE where it is more). OTHER_KIND exactly where the world has tints. IS_CLOSED, OUTSIDE,
- * NO_VERSION and FORGOTTEN as of questions. */
+ * rising z, then y, then x, each with its tint. Here *needed and `room` count cells. The box has at
+ * most 256 on each axis (OUTSIDE where it is more). IS_CLOSED, OUTSIDE, NO_VERSION and FORGOTTEN as of
+ * questions. */
 static inline voxdag_status voxdag_surface(voxdag_world *w, uint32_t version, const voxdag_box *part, voxdag_shown *out, size_t room,
                                            size_t *needed)
 {

@@ -319,7 +319,7 @@ class World:
     def surface_bytes(self, version: int, box: Sequence[int]) -> bytes:
         """The set cells of a box, at most 256 each way, that have an unset neighbour or the world's outside beside them,
         by rising z, then y, then x. Each is five bytes: x, y and z from the box's corner, the tint, and which sides are
-        bare, in bits 0 to 5 for -x +x -y +y -z +z. For worlds without tints."""
+        bare, in bits 0 to 5 for -x +x -y +y -z +z."""
         number, part = _number(version), _box(box)
         return self._bytes(lambda out, room, needed: self._call("surface", number, part, out, room, needed), 5)
 

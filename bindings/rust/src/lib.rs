@@ -432,7 +432,7 @@ impl World {
     }
 
     /// The set cells of a box, at most 256 each way, that have an unset neighbour or the world's outside beside them, by
-    /// rising z, then y, then x. For worlds without tints.
+    /// rising z, then y, then x, each with its tint.
     #[cfg(voxdag = "surface")]
     pub fn surface(&mut self, version: u32, part: Boxed) -> Answer<Vec<Shown>> {
         let handle = &mut self.0;
