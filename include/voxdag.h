@@ -437,9 +437,9 @@ static inline voxdag_status voxdag_same(voxdag_world *w, uint32_t a, uint32_t b,
     return status;
 }
 
-/* The least box of all cells that one of two versions has and the other hasn't. *some: whether there
- * are any; where not, *least stays. The two versions come in any order. OTHER_KIND exactly where the
- * world has tints. */
+/* The least box of all cells that one of two versions has and the other hasn't, and in a world with
+ * tints of all whose tints differ. *some: whether there are any; where not, *least stays. The two
+ * versions come in any order. */
 static inline voxdag_status voxdag_changes(voxdag_world *w, uint32_t a, uint32_t b, bool *some, voxdag_box *least)
 {
     bool are = false;
@@ -470,9 +470,9 @@ static inline voxdag_status voxdag_save(voxdag_world *w, uint32_t version, const
 }
 
 /* The set cells of a box of a version that have an unset cell or the world's outside beside them, by
- * rising z, then y, then x. Here *needed and `room` count cells. The box has at most 256 on each axis
- * (OUTSIDE where it is more). OTHER_KIND exactly where the world has tints. IS_CLOSED, OUTSIDE,
- * NO_VERSION and FORGOTTEN as of questions. */
+ * rising z, then y, then x, each with its tint. Here *needed and `room` count cells. The box has at
+ * most 256 on each axis (OUTSIDE where it is more). IS_CLOSED, OUTSIDE, NO_VERSION and FORGOTTEN as of
+ * questions. */
 static inline voxdag_status voxdag_surface(voxdag_world *w, uint32_t version, const voxdag_box *part, voxdag_shown *out, size_t room,
                                            size_t *needed)
 {
@@ -484,8 +484,7 @@ static inline voxdag_status voxdag_surface(voxdag_world *w, uint32_t version, co
 /* The cells of a box of a version that ways through its clear cells join with `from`, a cell of the
  * box: *cells is how many, with OK and with TOO_SMALL, and the VOX file has them as its one model's,
  * of the box's size: at most 256 on each axis (OUTSIDE where it is more). None where that cell is set.
- * OTHER_KIND exactly where the world has tints. IS_CLOSED, OUTSIDE, NO_VERSION and FORGOTTEN as of
- * questions. */
+ * IS_CLOSED, OUTSIDE, NO_VERSION and FORGOTTEN as of questions. */
 static inline voxdag_status voxdag_flood(voxdag_world *w, uint32_t version, const voxdag_box *part, const voxdag_place *from,
                                          uint64_t *cells, uint8_t *out, size_t size, size_t *needed)
 {

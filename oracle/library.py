@@ -35,8 +35,6 @@ QUESTIONS = {
     "flood": 3, "journal": 2, "dag": 1, "newest": 2, "model_size": 2, "about": 1, "go_on": 2, "open_scene": 1,
 }
 NEEDS = {"surface_bytes": "surface", "tints": "save", "go_on": "open_journal"}
-# What the library answers of worlds without tints alone.
-PLAIN = ("changes", "surface_bytes", "flood")
 
 
 class Differs(Exception):
@@ -76,7 +74,7 @@ class Pair:
             return outcome(lambda: getattr(world, name)) if isinstance(value, property) else outcome(getattr(world, name), *arguments)
 
         given = of(self.fast)
-        wanted = ("refuses", "OtherKind", None) if self.tints and name in PLAIN else of(self.slow)
+        wanted = of(self.slow)
         if given != wanted:
             raise Differs(f"{name}{arguments}: wanted {str(wanted)[:300]}, given {str(given)[:300]}")
         return given[1] if given[0] == "refuses" else name

@@ -118,13 +118,14 @@ static int scene(long n)
     return told.placements != 1 || voxdag_count(&w, 1, &all, &cells) || cells != 1 || voxdag_close(&w) ? 2 : 0;
 }
 
-/* The same of a world with tints, up to the file of a box. */
+/* The same of a world with tints, up to the file of a box and what can be seen of it. */
 static int tinted(long n)
 {
     const voxdag_plan kind = {16, 0, 0, 1};
     voxdag_world w = VOXDAG_CLOSED;
     static uint8_t out[4096];
-    size_t needed = 7;
+    static voxdag_shown seen[512];
+    size_t needed = 7, many = 7;
     int failed = 0;
     left = n;
     voxdag_status s = voxdag_open_as(&w, &kind, NULL, 0);
@@ -139,9 +140,14 @@ static int tinted(long n)
         failed = 1;
         if (needed != 7 || voxdag_save(&w, 1, &part, out, sizeof out, &needed)) return 2;
     } else if (s != VOXDAG_OK) return 2;
+    s = voxdag_surface(&w, 1, &part, seen, 512, &many);
+    if (s == VOXDAG_NO_MEMORY) {
+        failed = 1;
+        if (many != 7 || voxdag_surface(&w, 1, &part, seen, 512, &many)) return 2;
+    } else if (s != VOXDAG_OK) return 2;
     left = -1;
-    /* 8 x 8 x 8 cells of four bytes behind the 60 of what comes first, each with its tint as its last byte. */
-    return needed != 60 + 4 * 512 || out[63] != 7 || voxdag_close(&w) ? 2 : failed;
+    /* 8 x 8 x 8 cells of four bytes behind the 60 of what comes first, each with its tint as its last byte; all but 6 x 6 x 6 are seen. */
+    return needed != 60 + 4 * 512 || out[63] != 7 || many != 512 - 216 || seen[295].tint != 7 || voxdag_close(&w) ? 2 : failed;
 }
 
 int main(void)

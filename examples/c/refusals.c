@@ -379,8 +379,18 @@ static int tints(void)
     SAYS(VOXDAG_OK, voxdag_same(&w, 1, 3, &same)); IS(same);
     SAYS(VOXDAG_OK, voxdag_ball_tint(&w, &in, 0, 255)); SAYS(VOXDAG_OK, voxdag_colour(&w, 4, &in, &tint)); IS(tint == 255);
     SAYS(VOXDAG_OK, voxdag_carve(&w, &in, 0)); SAYS(VOXDAG_OK, voxdag_colour(&w, 5, &in, &tint)); IS(tint == 0);
-    SAYS(VOXDAG_OTHER_KIND, voxdag_changes(&w, 9, 9, &same, &least)); SAYS(VOXDAG_OTHER_KIND, voxdag_surface(&w, 9, &far, seen, 8, &needed));
-    n = 8; SAYS(VOXDAG_OTHER_KIND, voxdag_flood(&w, 9, &far, &in, &n, out, sizeof out, &needed)); IS(n == 8 && needed == 92);
+    SAYS(VOXDAG_OUTSIDE, voxdag_surface(&w, 9, &far, seen, 8, &needed)); SAYS(VOXDAG_NO_VERSION, voxdag_surface(&w, 9, &part, seen, 8, &needed)); IS(needed == 92);
+    SAYS(VOXDAG_OK, voxdag_surface(&w, 4, &part, seen, 8, &needed)); IS(needed == 8 && seen[0].tint == 7 && seen[0].sides == 21 && seen[7].tint == 255 && seen[7].sides == 42);
+    SAYS(VOXDAG_TOO_SMALL, voxdag_surface(&w, 5, &part, seen, 6, &needed)); IS(needed == 7 && seen[6].x == 0 && seen[6].y == 1 && seen[6].z == 1);
+    SAYS(VOXDAG_OK, voxdag_surface(&w, 5, &part, seen, 7, &needed)); IS(needed == 7 && seen[6].x == 0 && seen[6].tint == 7 && seen[6].sides == 63 - 4 - 16 && seen[7].tint == 255);
+    SAYS(VOXDAG_OK, voxdag_surface(&w, 0, &all, NULL, 0, &needed)); IS(needed == 0); needed = 92;
+    SAYS(VOXDAG_NO_VERSION, voxdag_changes(&w, 5, 6, &same, &least)); SAYS(VOXDAG_NO_VERSION, voxdag_changes(&w, 9, 0, &same, &least));
+    SAYS(VOXDAG_OK, voxdag_changes(&w, 1, 2, &same, &least)); IS(same && least.at.x == 0 && least.at.z == 0 && least.size.x == 2 && least.size.z == 2);
+    SAYS(VOXDAG_OK, voxdag_changes(&w, 1, 3, &same, &least)); IS(!same && least.size.x == 2);
+    SAYS(VOXDAG_OK, voxdag_changes(&w, 4, 3, &same, &least)); IS(same && least.at.x == 1 && least.at.y == 1 && least.at.z == 1 && least.size.x == 1 && least.size.y == 1 && least.size.z == 1);
+    n = 8; SAYS(VOXDAG_OUTSIDE, voxdag_flood(&w, 9, &far, &in, &n, out, sizeof out, &needed)); IS(n == 8 && needed == 92);
+    SAYS(VOXDAG_OK, voxdag_flood(&w, 4, &part, &in, &n, out, sizeof out, &needed)); IS(n == 0 && needed == 60);
+    SAYS(VOXDAG_OK, voxdag_flood(&w, 5, &part, &in, &n, out, sizeof out, &needed)); IS(n == 1 && needed == 64);
     SAYS(VOXDAG_OK, voxdag_close(&w));
     return 0;
 }

@@ -9,8 +9,7 @@
 
 Every change answers the number of the version that it made, and each version can be asked until it is forgotten. What
 is refused is raised, by a class of its own for each status (`voxdag.errors`). Lists of cells are arrays where NumPy is
-there, and else memoryviews. `voxdag.slow` has the same world in plain Python, written from the definitions;
-it answers `changes`, `surface` and `flood` of worlds with tints too.
+there, and else memoryviews. `voxdag.slow` has the same world in plain Python, written from the definitions.
 """
 
 from .errors import (

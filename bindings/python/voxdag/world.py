@@ -300,7 +300,7 @@ class World:
         return is_same.value
 
     def changes(self, a: int, b: int) -> Optional[Box]:
-        """The least box of all cells that differ between two versions of a world without tints, or None where none do."""
+        """The least box of all cells that differ between two versions, by their tints too, or None where none do."""
         some, least = c.c_bool(), CBox()
         self._call("changes", _number(a), _number(b), c.byref(some), c.byref(least))
         return _six(least) if some.value else None
@@ -323,7 +323,7 @@ class World:
     def surface_bytes(self, version: int, box: Sequence[int]) -> bytes:
         """The set cells of a box, at most 256 each way, that have an unset neighbour or the world's outside beside them,
         by rising z, then y, then x. Each is five bytes: x, y and z from the box's corner, the tint, and which sides are
-        bare, in bits 0 to 5 for -x +x -y +y -z +z. For worlds without tints."""
+        bare, in bits 0 to 5 for -x +x -y +y -z +z."""
         number, part = _number(version), _box(box)
         return self._bytes(lambda out, room, needed: self._call("surface", number, part, out, room, needed), 5)
 
@@ -363,8 +363,7 @@ class World:
         return self._bytes(lambda out, size, needed: self._call("dag", out, size, needed))
 
     def flood(self, version: int, box: Sequence[int], start: Sequence[int]) -> tuple[int, bytes]:
-        """The unset cells of a box, at most 256 each way, that steps from a cell lead to: how many, and their VOX file. For
-        worlds without tints."""
+        """The unset cells of a box, at most 256 each way, that steps from a cell lead to: how many, and their VOX file."""
         number, part, place, cells = _number(version), _box(box), _place(start), c.c_uint64()
         file = self._bytes(lambda out, size, needed: self._call("flood", number, part, place, c.byref(cells), out, size, needed))
         return cells.value, file

@@ -424,7 +424,7 @@ impl World {
         Ok(some.then_some(least))
     }
 
-    /// The least box of all cells that differ between two versions of a world without tints, where some do.
+    /// The least box of all cells that differ between two versions, by their tints too, where some do.
     #[cfg(voxdag = "changes")]
     pub fn changes(&mut self, a: u32, b: u32) -> Answer<Option<Boxed>> {
         let (mut some, mut least) = (false, Boxed::default());
@@ -447,7 +447,7 @@ impl World {
     }
 
     /// The set cells of a box, at most 256 each way, that have an unset neighbour or the world's outside beside them, by
-    /// rising z, then y, then x. For worlds without tints.
+    /// rising z, then y, then x, each with its tint.
     #[cfg(voxdag = "surface")]
     pub fn surface(&mut self, version: u32, part: Boxed) -> Answer<Vec<Shown>> {
         let handle = &mut self.0;
@@ -460,7 +460,7 @@ impl World {
         whole(|out, size, needed| unsafe { voxdag_save(handle, version, &part, out, size, needed) })
     }
 
-    /// How many unset cells of a box steps from a cell lead to, and their VOX file. For worlds without tints.
+    /// How many unset cells of a box steps from a cell lead to, and their VOX file.
     #[cfg(voxdag = "flood")]
     pub fn flood(&mut self, version: u32, part: Boxed, from: Place) -> Answer<(u64, Vec<u8>)> {
         let (handle, mut cells) = (&mut self.0, 0);

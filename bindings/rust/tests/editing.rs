@@ -144,3 +144,15 @@ fn cells_have_tints() -> Result<(), Refusal> {
     assert_eq!(World::open(8, 0, &[])?.fill_tint(one, 7), Err(Refusal::OtherKind));
     Ok(())
 }
+
+#[cfg(all(voxdag = "open_as", voxdag = "fill_tint", voxdag = "changes", voxdag = "surface"))]
+#[test]
+fn tints_are_compared_and_seen() -> Result<(), Refusal> {
+    use voxdag::{Plan, Shown};
+    let one = boxed(place(1, 1, 1), place(1, 1, 1));
+    let mut world = World::open_as(&Plan { side: 8, tints: 1, ..Plan::default() }, &[])?;
+    assert_eq!((world.fill_tint(one, 7)?, world.fill_tint(one, 8)?), (1, 2));
+    assert_eq!((world.changes(1, 2)?, world.changes(2, 2)?), (Some(one), None));
+    assert_eq!(world.surface(2, one)?, [Shown { x: 0, y: 0, z: 0, tint: 8, sides: 63 }]);
+    Ok(())
+}

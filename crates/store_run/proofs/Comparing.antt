@@ -2,9 +2,6 @@
 use Rattle.std.proofs.Common.{◌≡◌, ℕ, ◌-◌, ◌^◌, ◌≤◌, Bool, Option, Some, List, sym, ◌∙◌, ap, subst, arith}
 use Rattle.vw_cell.specs.declared.boxes.Boxed.{Boxed}
 use Rattle.vw_cell.specs.Extents.{IsExtent}
-use Rattle.vox_read.specs.Contents.{Content}
-use Rattle.history_model.specs.Logs.{Log}
-use Rattle.history_model.specs.Moments.{world_has}
 use Rattle.history_model.specs.Worlds.{World}
 use Rattle.node_words.specs.declared.shapes.names.Name.{Name}
 use Rattle.node_words.specs.shapes.Tree.{Tree, shape_of}
@@ -17,9 +14,9 @@ use Rattle.one_store.specs.Known.{Known, root_tree, stored_root}
 use Rattle.one_store.specs.Steps.{SparesRoots}
 use Rattle.act_rebuilds.proofs.OfQuestions.SameTells.{extent_same}
 use Rattle.store_run.specs.declared.stored_versions.Versions.{Versions}
-use Rattle.store_run.specs.Kept.{log_of, world_of, AreVersions, HoldsNothing, HoldsTree, HoldsSame}
-use Rattle.store_run.specs.Steps.{StayVersions, LeavesAll, SharesRootOfVersion, PutsDown, DifferIn}
-use Rattle.store_run.specs.Worlds.{WorldState, world_state, AreVersionsAtRest}
+use Rattle.store_run.specs.Kept.{log_of, world_of, AreStoredVersions, AreVersions, HoldsNothing, HoldsTree, HoldsSame}
+use Rattle.store_run.specs.Steps.{LeavesAll, SharesRootOfVersion, PutsDown, DifferIn}
+use Rattle.store_run.specs.Worlds.{AreStoredAtRest}
 use Rattle.store_run.proofs.Files.{shown_at}
 use Rattle.store_run.proofs.Holding.{gained_few}
 use Rattle.store_run.proofs.Rebuilding.{shows_plainly, stays_on}
@@ -94,7 +91,7 @@ left_same a v u w version base shares leaves same puts = record {
 }
 
 pub rests_again : (a w : Versions) → HoldsNothing a.store → HoldsSame a.store w.store
-    → AreVersions w → AreVersionsAtRest w
+    → AreStoredVersions w → AreStoredAtRest w
 rests_again a w free same are =
     record { are = are; nothing = record { weighs = λ f. same.weighs f ∙ free.weighs f } }
 
@@ -144,23 +141,3 @@ roots_differ v a b before after found are of_a of_b holds also is_a is_b told =
     (same_differs (2 ^ v.side) (cells_of (v.side - 2) (shape_of s.0))
     (cells_of (v.side - 2) (shape_of t.0)) (world_of v a) (world_of v b) s.2 t.2)
     found (told s.0 s.1 t.0 t.1)
-
-pub differ_still : (a v : Versions) (x y : ℕ) (found : Option Boxed) → StayVersions a v
-    → DifferIn v x y found → DifferIn a x y found
-differ_still a v x y found stay told =
-    subst (λ (l : Log). IsExtent (2 ^ l.side)
-    (differs (world_has a.models.models l.records x) (world_has a.models.models l.records y))
-    found) stay.log
-    (subst (λ (ms : List Content). IsExtent (2 ^ v.side)
-    (differs (world_has ms v.records.items x) (world_has ms v.records.items y)) found)
-    stay.models told)
-
-pub changes_told : (v : Versions) (s : WorldState) (x y : ℕ) (found : Option Boxed)
-    → world_state v ≡ s → AreVersions v → DifferIn v x y found
-    → IsExtent (2 ^ s.plan.side)
-    (differs (world_has s.models s.log.records x) (world_has s.models s.log.records y)) found
-changes_told v s x y found is are told =
-    subst (λ (t : WorldState). IsExtent (2 ^ t.plan.side)
-    (differs (world_has t.models t.log.records x) (world_has t.models t.log.records y)) found) is
-    (subst (λ (l : ℕ). IsExtent (2 ^ l) (differs (world_of v x) (world_of v y)) found)
-    are.stored.side told)

@@ -21,3 +21,7 @@ pub mod Taken
 pub mod Listed
 pub mod Lent
 pub mod TintFiles
+pub mod TintChanges
+pub mod TintComparing
+pub mod Flooding
+pub mod SeenCells

@@ -102,35 +102,6 @@ root_surface v version base part before after are kept holds is fits nothing tol
     ∙ surface_same (2 ^ v.side) (cells_of (v.side - 2) (shape_of s.0)) (world_of v version) s.2
     part fits
 
-pub surface_still : {E Z : Type 0} (a v : Versions) (version : ℕ) (part : Boxed)
-    (result : Result (Vec Voxel Z) E) → StayVersions a v
-    → IfOk result
-    (λ voxels. voxels.items ≡ surface_of_box (2 ^ v.side) (world_of v version) part)
-    → IfOk result
-    (λ voxels. voxels.items ≡ surface_of_box (2 ^ a.side) (world_of a version) part)
-surface_still {E} {Z} a v version part result stay told =
-    subst (λ (l : Log). IfOk result
-    (λ voxels. voxels.items
-    ≡ surface_of_box (2 ^ l.side) (world_has a.models.models l.records version) part)) stay.log
-    (subst (λ (ms : List Content). IfOk result
-    (λ voxels. voxels.items
-    ≡ surface_of_box (2 ^ v.side) (world_has ms v.records.items version) part)) stay.models told)
-
-pub surface_told : {E Z : Type 0} (v : Versions) (s : WorldState) (version : ℕ) (part : Boxed)
-    (result : Result (Vec Voxel Z) E) → world_state v ≡ s → AreVersions v
-    → IfOk result
-    (λ voxels. voxels.items ≡ surface_of_box (2 ^ v.side) (world_of v version) part)
-    → IfOk result
-    (λ voxels. voxels.items
-    ≡ surface_of_box (2 ^ s.plan.side) (world_has s.models s.log.records version) part)
-surface_told v s version part result is are told =
-    subst (λ (t : WorldState). IfOk result
-    (λ voxels. voxels.items
-    ≡ surface_of_box (2 ^ t.plan.side) (world_has t.models t.log.records version) part)) is
-    (subst (λ (l : ℕ). IfOk result
-    (λ voxels. voxels.items ≡ surface_of_box (2 ^ l) (world_of v version) part))
-    are.stored.side told)
-
 -- ---- regions
 
 -- a way through cells is one through what they are among
@@ -143,7 +114,7 @@ joined_among : (P Q : Cell → Type 0) → ((c : Cell) → P c → Q c) → (a q
     → IsJoined Q a q
 joined_among P Q f a q j = record { more = j.more; way = path_among P Q f a j.more q j.way }
 
-region_same : (side : ℕ) (v w : World) → SameWorld side v w → (b : Boxed) (from : Cell)
+pub region_same : (side : ℕ) (v w : World) → SameWorld side v w → (b : Boxed) (from : Cell)
     (number : ℕ) (file : List ℕ) → FitsAt b.at b.size side → FilesRegion b from number file v
     → FilesRegion b from number file w
 region_same side v w same b from number file fits files =

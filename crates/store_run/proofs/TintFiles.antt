@@ -6,7 +6,7 @@ use Rattle.std.proofs.lemmas.List.Elements.{All-head, All-map, All-tail, All-wea
 use Rattle.vw_cell.specs.declared.boxes.Boxed.{Boxed}
 use Rattle.vw_cell.specs.declared.cells.Cell.{Cell}
 use Rattle.vw_cell.specs.Counts.{cell_at}
-use Rattle.vw_cell.specs.Places.{FitsAt}
+use Rattle.vw_cell.specs.Places.{FitsAt, IsInWorld}
 use Rattle.vox_read.specs.declared.voxels.Voxel.{Voxel}
 use Rattle.vox_read.specs.Contents.{Content, IsSize, IsInsideModel}
 use Rattle.vox_write.specs.Written.{model_file}
@@ -48,12 +48,12 @@ same_voxels b f g same =
     joined-same b.size.x _ _ (λ x of_x.
     ap (λ (set : Bool). voxel_if set (0 + x) y z) (same x y z of_x of_y of_z))))
 
-mapped_same : (f g : Voxel → Voxel) (vs : List Voxel) → All (λ v. f v ≡ g v) vs
+pub mapped_same : {X : Type 0} (f g : Voxel → X) (vs : List Voxel) → All (λ v. f v ≡ g v) vs
     → map f vs ≡ map g vs
 mapped_same f g [] all = refl
-mapped_same f g (v ∷ vs) all =
-    ap (λ (u : Voxel). u ∷ map f vs) (All-head (λ u. f u ≡ g u) v vs all)
-    ∙ ap (λ (us : List Voxel). g v ∷ us)
+mapped_same {X} f g (v ∷ vs) all =
+    ap (λ (u : X). u ∷ map f vs) (All-head (λ u. f u ≡ g u) v vs all)
+    ∙ ap (λ (us : List X). g v ∷ us)
     (mapped_same f g vs (All-tail (λ u. f u ≡ g u) v vs all))
 
 mapped_long : (f : Voxel → Voxel) (vs : List Voxel) → length (map f vs) ≡ length vs
@@ -110,12 +110,10 @@ box_of_quarter v b are tinted fits =
 
 -- ---- of a version
 
-module _ (v : Versions) (version : ℕ) (base : Option Name) (part : Boxed)
-    (are : AreStoredVersions v) (tinted : v.models.tint ≡ true)
-    (kept : HoldsVersion (log_of v) version) (holds : HoldsTree v.store base)
-    (is : base ≡ stored_root v.store.roots version)
-    (fits : FitsAt part.at part.size (2 ^ v.side / 4)) where
-  shown : ShowsWorld v.store.told.held (v.side - 2) base (stored_of v version)
+module _ (v : Versions) (version : ℕ) (base : Option Name) (are : AreStoredVersions v)
+    (tinted : v.models.tint ≡ true) (kept : HoldsVersion (log_of v) version)
+    (holds : HoldsTree v.store base) (is : base ≡ stored_root v.store.roots version) where
+  pub shown : ShowsWorld v.store.told.held (v.side - 2) base (stored_of v version)
   shown = share_shows v version base are kept holds is
 
   abbrev cells : World
@@ -127,63 +125,70 @@ module _ (v : Versions) (version : ℕ) (base : Option Name) (part : Boxed)
   large : 4 ≤ v.side
   large = large_tints v are tinted
 
-  same_root : SameWorld (2 ^ v.side) cells (stored_of v version)
+  pub same_root : SameWorld (2 ^ v.side) cells (stored_of v version)
   same_root = root_same v.store.told.held v.side base (stored_of v version) shown
 
-  same_cells : SameWorld quarter cells (world_of v version)
+  pub same_cells : SameWorld quarter cells (world_of v version)
   same_cells =
       here quarter (2 ^ v.side) (sym (whole_again v.side large)) cells (stored_of v version)
       (world_of v version) (tints_of v version) same_root (keeps_tints v are tinted version)
       (λ c i. set_tints v are version c)
 
-  keeps : StoresTints quarter (tints_of v version) cells
+  pub keeps : StoresTints quarter (tints_of v version) cells
   keeps =
       kept_here quarter (2 ^ v.side) (sym (whole_again v.side large)) cells (stored_of v version)
       (world_of v version) (tints_of v version) same_root (keeps_tints v are tinted version)
       (λ c i. set_tints v are version c)
 
-  same_box : voxels_of_box part cells ≡ voxels_of_box part (world_of v version)
-  same_box =
-      same_voxels part cells (world_of v version) (λ x y z of_x of_y of_z.
-      same_cells.each (cell_at (part.at.x + x) (part.at.y + y) (part.at.z + z)) (record {
-        x = omega (arith, of_x, fits.x);
-        y = omega (arith, of_y, fits.y);
-        z = omega (arith, of_z, fits.z);
-      }))
+  -- the tint of a cell is read from its places
+  pub kept_tint : (c : Cell) → IsInWorld quarter c
+      → tint_in (2 ^ (v.side - 2)) cells c ≡ tints_of v version c
+  kept_tint c inside =
+      ap (λ (m : ℕ). tint_in m cells c) (sym (quarter_same v.side large))
+      ∙ stored_tint quarter (tints_of v version) cells c keeps inside
+      (small_tints v are tinted version c)
 
-  same_tint : (w : Voxel) → IsInsideModel part.size w
-      → with_tint (2 ^ (v.side - 2)) cells part.at w
-      ≡ with_its_tint (tints_of v version) part.at w
-  same_tint w inside =
-      let c : Cell = voxel_cell part.at w in
-      ap (coloured_voxel w)
-      (ap (λ (m : ℕ). tint_in m cells c) (sym (quarter_same v.side large))
-      ∙ stored_tint quarter (tints_of v version) cells c keeps (record {
-        x = omega (arith, inside.x, fits.x);
-        y = omega (arith, inside.y, fits.y);
-        z = omega (arith, inside.z, fits.z);
-      }) (small_tints v are tinted version c))
+  module _ (part : Boxed) (fits : FitsAt part.at part.size (2 ^ v.side / 4)) where
+    same_box : voxels_of_box part cells ≡ voxels_of_box part (world_of v version)
+    same_box =
+        same_voxels part cells (world_of v version) (λ x y z of_x of_y of_z.
+        same_cells.each (cell_at (part.at.x + x) (part.at.y + y) (part.at.z + z)) (record {
+          x = omega (arith, of_x, fits.x);
+          y = omega (arith, of_y, fits.y);
+          z = omega (arith, of_z, fits.z);
+        }))
 
-  same_list : tinted_voxels (2 ^ (v.side - 2)) part cells
-      ≡ map (with_its_tint (tints_of v version) part.at) (voxels_of_box part (world_of v version))
-  same_list =
-      mapped_same (with_tint (2 ^ (v.side - 2)) cells part.at)
-      (with_its_tint (tints_of v version) part.at) (voxels_of_box part cells)
-      (All-weaker (IsInsideModel part.size)
-      (λ w. with_tint (2 ^ (v.side - 2)) cells part.at w
-      ≡ with_its_tint (tints_of v version) part.at w)
-      same_tint (voxels_of_box part cells) (voxels_inside part cells))
-      ∙ ap (map (with_its_tint (tints_of v version) part.at)) same_box
+    same_tint : (w : Voxel) → IsInsideModel part.size w
+        → with_tint (2 ^ (v.side - 2)) cells part.at w
+        ≡ with_its_tint (tints_of v version) part.at w
+    same_tint w inside =
+        let c : Cell = voxel_cell part.at w in
+        ap (coloured_voxel w) (kept_tint c (record {
+          x = omega (arith, inside.x, fits.x);
+          y = omega (arith, inside.y, fits.y);
+          z = omega (arith, inside.z, fits.z);
+        }))
 
-  pub root_tinted : {E Z : Type 0} (result : Result (Vec ℕ Z) E)
-      → IfOk result (λ file. ForWorld v.store.told.held v.side base
-      (λ cs. file.items ≡ file_of_kept_tints v.side part cs))
-      → IfOk result (λ file. file.items
-      ≡ file_of_tints part (world_of v version) (tints_of v version))
-  root_tinted (Err e) told = tt
-  root_tinted (Ok file) told =
-      told shown.tree (root_block v.store.told.held v.side base (stored_of v version) shown)
-      ∙ ap (λ (vs : List Voxel). model_file (record { size = part.size; voxels = vs })) same_list
+    same_list : tinted_voxels (2 ^ (v.side - 2)) part cells
+        ≡ map (with_its_tint (tints_of v version) part.at) (voxels_of_box part (world_of v version))
+    same_list =
+        mapped_same (with_tint (2 ^ (v.side - 2)) cells part.at)
+        (with_its_tint (tints_of v version) part.at) (voxels_of_box part cells)
+        (All-weaker (IsInsideModel part.size)
+        (λ w. with_tint (2 ^ (v.side - 2)) cells part.at w
+        ≡ with_its_tint (tints_of v version) part.at w)
+        same_tint (voxels_of_box part cells) (voxels_inside part cells))
+        ∙ ap (map (with_its_tint (tints_of v version) part.at)) same_box
+
+    pub root_tinted : {E Z : Type 0} (result : Result (Vec ℕ Z) E)
+        → IfOk result (λ file. ForWorld v.store.told.held v.side base
+        (λ cs. file.items ≡ file_of_kept_tints v.side part cs))
+        → IfOk result (λ file. file.items
+        ≡ file_of_tints part (world_of v version) (tints_of v version))
+    root_tinted (Err e) told = tt
+    root_tinted (Ok file) told =
+        told shown.tree (root_block v.store.told.held v.side base (stored_of v version) shown)
+        ∙ ap (λ (vs : List Voxel). model_file (record { size = part.size; voxels = vs })) same_list
 
 pub tints_still : {E Z : Type 0} (a v : Versions) (version : ℕ) (part : Boxed)
     (result : Result (Vec ℕ Z) E) → StayVersions a v

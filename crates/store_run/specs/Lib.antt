@@ -7,6 +7,7 @@ pub mod Replaying
 pub mod Marked
 pub mod Taken
 pub mod TintFiles
+pub mod TintChanges
 pub use Rattle.act_rebuilds.specs.questions.AnswersByRoots
 pub use Rattle.one_store.specs.Known
 pub use Rattle.conformance.specs.QuestionAnswers

@@ -11,13 +11,18 @@ use Rattle.history_model.specs.Worlds.{World}
 use Rattle.extract.specs.Listing.{voxels_of_box}
 use Rattle.act_rebuilds.specs.Reading.{tinted_voxels}
 
+-- the tint of the cell of a voxel that is told from this corner
+abbrev pub its_tint : Tints → Cell → Voxel → ℕ
+its_tint tints corner v =
+    tints (cell_at (corner.x + v.x) (corner.y + v.y) (corner.z + v.z))
+
 -- the voxel of a box from this corner, with the tint of its cell as its colour
 abbrev pub with_its_tint : Tints → Cell → Voxel → Voxel
 with_its_tint tints corner v = record {
   x = v.x;
   y = v.y;
   z = v.z;
-  colour = tints (cell_at (corner.x + v.x) (corner.y + v.y) (corner.z + v.z));
+  colour = its_tint tints corner v;
 }
 
 -- the set cells of a box as a model, by rising z, then y, then x, told from the box's corner, each

@@ -19,6 +19,7 @@ mod replaying;
 mod replays;
 mod seen;
 mod stored_versions;
+mod tint_changes;
 mod tint_files;
 
 pub use act_rebuilds::{draw_models, rebuild_act, tell};

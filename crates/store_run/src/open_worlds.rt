@@ -1,9 +1,9 @@
 //! A world that stands open, and is changed and asked one call at a time.
-ghost use Rattle.std.specs.Prelude.{◌≡◌, ◌↔◌, ◌/◌, ◌<◌, ◌≤◌, ◌^◌, Bool, [], Some, IfOk, IfSome, IsTrue, OnErr, length, option_copied, true, false};
+ghost use Rattle.std.specs.Prelude.{◌≡◌, ◌↔◌, ◌/◌, ◌<◌, ◌≤◌, ◌^◌, Bool, [], All, Some, IfOk, IfSome, IsTrue, OnErr, length, map, option_copied, true, false};
 ghost use Rattle.std.specs.List.{slice_get};
 ghost use Rattle.vw_cell.specs.Places.{FitsAt, IsInBox};
 ghost use Rattle.vw_cell.specs.Extents.{IsExtent};
-ghost use Rattle.vox_read.specs.Contents.{AreModels};
+ghost use Rattle.vox_read.specs.Contents.{AreModels, IsInsideModel};
 ghost use Rattle.history_model.specs.Journal.{journal_of};
 ghost use Rattle.history_model.specs.Logs.{FitsWorld, side_of_world, suits_tints};
 ghost use Rattle.history_model.specs.Moments.{world_has, world_tint};
@@ -25,13 +25,14 @@ ghost use Rattle.store_run.specs.Answering.{ExtendsBy};
 ghost use Rattle.store_run.specs.Changing.{Changes, AnswersForget, MakesVersion};
 ghost use Rattle.store_run.specs.Kept.{log_of, moment_of, world_of, HasRecordRoom, AreVersions, HoldsTree, IsLargeStore};
 ghost use Rattle.store_run.specs.Steps.{LeavesAll, StaysSeen, AnswersHeldVersion, side_of};
-ghost use Rattle.store_run.specs.TintFiles.{file_of_tints};
+ghost use Rattle.store_run.specs.TintChanges.{tints_differ};
+ghost use Rattle.store_run.specs.TintFiles.{file_of_tints, its_tint};
 ghost use Rattle.store_run.specs.Worlds.{AreVersionsAtRest, AreStoredAtRest, size_of, world_state};
 
 use crate::compared::changes_over;
 use crate::floods::region_over;
 use crate::lines::is_edit;
-use crate::seen::surface_over;
+use crate::seen::{surface_over, tints_over};
 use crate::stored_versions::{VersionFound, Versions};
 use crate::tint_files::tint_file_over;
 use extract::box_file;
@@ -246,14 +247,16 @@ impl OpenWorld {
         tint_file_over::<Brand>(&mut self.versions, alloc, version, part, Blank::new(1))
     }
 
-    /// The least box of all cells in which two versions of a world without tints differ, and none
-    /// exactly where none does.
-    #[tactic(auto, using(crate::proofs::Comparing::changes_told, crate::proofs::Opening::rests_plain, crate::proofs::Opening::rests_stored))]
+    /// The least box of all cells whose tints differ in two versions, and none exactly where none
+    /// do: of all cells that differ, where cells have no tints.
+    #[tactic(auto, using(crate::proofs::TintComparing::changes_told, crate::proofs::TintComparing::changes_plain))]
     pub fn changes(&mut self, v: u32, w: u32) -> Option<Boxed>
-        requires plain { self.old.log.coloured ≡ false }
         requires first { HoldsVersion self.old.log v }
         requires second { HoldsVersion self.old.log w }
-        ensures extent { IsExtent (2 ^ self.old.plan.side)
+        ensures tints { IsExtent (side_of_world self.old.log.coloured (2 ^ self.old.plan.side))
+            (tints_differ (world_tint self.old.models self.old.log.records v)
+            (world_tint self.old.models self.old.log.records w)) result }
+        ensures cells { self.old.log.coloured ≡ false → IsExtent (2 ^ self.old.plan.side)
             (differs (world_has self.old.models self.old.log.records v)
             (world_has self.old.models self.old.log.records w)) result }
         ensures same { self.new ≡ self.old }
@@ -261,31 +264,60 @@ impl OpenWorld {
         changes_over::<Brand>(&mut self.versions, v, w, Blank::new(1))
     }
 
-    /// The set cells of a box of a version of a world without tints that have a bare side, told
-    /// from the box's corner, by rising z, then y, then x, each with its bare sides in the place of
-    /// its colour.
-    #[tactic(auto, using(crate::proofs::Seeing::surface_told, crate::proofs::Opening::rests_plain, crate::proofs::Opening::rests_stored))]
+    /// The set cells of a box of a version that have a bare side, told from the box's corner, by
+    /// rising z, then y, then x, each with its bare sides in the place of its colour.
+    #[tactic(auto, using(crate::proofs::SeenCells::surface_told, crate::proofs::Flooding::box_here))]
     pub fn surface(
         &mut self,
         alloc: Global,
         version: u32,
         part: Boxed,
     ) -> Result<Vec<Voxel>, Memory>
-        requires plain { self.old.log.coloured ≡ false }
         requires kept { HoldsVersion self.old.log version }
-        requires inside { FitsAt part.at part.size (2 ^ self.old.plan.side) }
+        requires inside { FitsAt part.at part.size
+            (side_of_world self.old.log.coloured (2 ^ self.old.plan.side)) }
         requires small { (part.size.x ≤ 256) × (part.size.y ≤ 256) × (part.size.z ≤ 256) }
-        ensures voxels { IfOk result
-            (λ voxels. voxels.items ≡ surface_of_box (2 ^ self.old.plan.side)
+        ensures voxels { IfOk result (λ voxels. voxels.items
+            ≡ surface_of_box (side_of_world self.old.log.coloured (2 ^ self.old.plan.side))
             (world_has self.old.models self.old.log.records version) part) }
         ensures same { self.new ≡ self.old }
     {
         surface_over::<Brand>(&mut self.versions, alloc, version, part, Blank::new(1))
     }
 
-    /// The cells of a box of a version of a world without tints that ways through its clear cells
+    /// The tints of some cells of a box of a version of a world with tints, each told as a voxel
+    /// from the box's corner.
+    #[tactic(auto, using(crate::proofs::SeenCells::tints_told, crate::proofs::TintFiles::rests_tinted, crate::proofs::TintFiles::part_here))]
+    pub fn tints_of(
+        &mut self,
+        alloc: Global,
+        version: u32,
+        part: Boxed,
+        voxels: &[Voxel],
+    ) -> Result<Vec<u8>, Memory>
+        requires tinted { self.old.log.coloured ≡ true }
+        requires kept { HoldsVersion self.old.log version }
+        requires inside { FitsAt part.at part.size (2 ^ self.old.plan.side / 4) }
+        requires small { (part.size.x ≤ 256) × (part.size.y ≤ 256) × (part.size.z ≤ 256) }
+        requires voxels { All (IsInsideModel part.size) voxels.now }
+        ensures tints { IfOk result (λ tints. tints.items
+            ≡ map (its_tint (world_tint self.old.models self.old.log.records version) part.at)
+            voxels.now) }
+        ensures same { self.new ≡ self.old }
+    {
+        tints_over::<Brand>(
+            &mut self.versions,
+            alloc,
+            version,
+            part,
+            voxels,
+            Blank::new(1),
+        )
+    }
+
+    /// The cells of a box of a version that ways through its clear cells
     /// join with one of its cells: how many they are, and their VOX file.
-    #[tactic(auto, using(crate::proofs::Opening::rests_plain, crate::proofs::Opening::rests_stored))]
+    #[tactic(auto, using(crate::proofs::Flooding::box_here))]
     pub fn flood(
         &mut self,
         alloc: Global,
@@ -293,9 +325,9 @@ impl OpenWorld {
         part: Boxed,
         from: Cell,
     ) -> Result<RegionFile, Memory>
-        requires plain { self.old.log.coloured ≡ false }
         requires kept { HoldsVersion self.old.log version }
-        requires inside { FitsAt part.at part.size (2 ^ self.old.plan.side) }
+        requires inside { FitsAt part.at part.size
+            (side_of_world self.old.log.coloured (2 ^ self.old.plan.side)) }
         requires small { (part.size.x ≤ 256) × (part.size.y ≤ 256) × (part.size.z ≤ 256) }
         requires from { IsInBox part from }
         ensures file { IfOk result (λ r. FilesRegion part from r.cells r.file.items

@@ -1,5 +1,6 @@
 pub mod AsBox
 pub mod Fitting
+pub mod Seen
 pub mod Kinds
 pub mod Changing
 pub mod Opening

@@ -496,8 +496,8 @@ pub extern "C" fn voxdag_c_dag(
     }
 }
 
-/// The least box of all cells in which two versions of a world without tints differ, where they
-/// do.
+/// The least box of all cells whose tints differ in two versions, where any do: of all cells that
+/// differ, where cells have no tints.
 #[tactic(auto, using(crate::proofs::Through::through_closed, crate::proofs::Through::through_open))]
 #[unsafe(no_mangle)]
 pub extern "C" fn voxdag_c_changes(
@@ -509,11 +509,11 @@ pub extern "C" fn voxdag_c_changes(
     least: &mut CBox,
 ) -> u32
     ensures { ByHandle ((some.new ≡ some.old) × (least.new ≡ least.old))
-        (λ w status v. (v ≡ w) × ByKind false w ((some.new ≡ some.old) × (least.new ≡ least.old))
-        (WorldDiffers w a b
+        (λ w status v. (v ≡ w)
+        × WorldDiffers w a b
         (λ found. (found ≡ extent_of some.new least.new)
         × (some.new ≡ false → least.new ≡ least.old))
-        ((some.new ≡ some.old) × (least.new ≡ least.old))) status)
+        ((some.new ≡ some.old) × (least.new ≡ least.old)) status)
         handle.old.kept.value result handle.new.kept.value }
 {
     match handle.take(alloc) {
@@ -526,8 +526,7 @@ pub extern "C" fn voxdag_c_changes(
     }
 }
 
-/// The cells of a box of a version of a world without tints that can be seen, and how many they
-/// are.
+/// The cells of a box of a version that can be seen, each with its tint, and how many they are.
 #[tactic(auto, using(crate::proofs::Through::through_closed, crate::proofs::Through::through_open))]
 #[unsafe(no_mangle)]
 pub extern "C" fn voxdag_c_surface(
@@ -540,8 +539,7 @@ pub extern "C" fn voxdag_c_surface(
 ) -> u32
     ensures { ByHandle (WritesNothing out.old out.new needed.old needed.new)
         (λ w status v. (v ≡ w)
-        × ByKind false w (WritesNothing out.old out.new needed.old needed.new)
-        (WorldShows w version (box_of part.now) out.old out.new needed.old needed.new) status)
+        × WorldShows w version (box_of part.now) out.old out.new needed.old needed.new status)
         handle.old.kept.value result handle.new.kept.value }
 {
     match handle.take(alloc) {
@@ -554,8 +552,8 @@ pub extern "C" fn voxdag_c_surface(
     }
 }
 
-/// The region of a box of a version of a world without tints that is connected with a cell: how
-/// many cells, and its VOX file.
+/// The region of a box of a version that is connected with a cell: how many cells, and its VOX
+/// file.
 #[tactic(auto, using(crate::proofs::Through::through_closed, crate::proofs::Through::through_open))]
 #[unsafe(no_mangle)]
 pub extern "C" fn voxdag_c_flood(
@@ -570,10 +568,9 @@ pub extern "C" fn voxdag_c_flood(
 ) -> u32
     ensures { ByHandle
         ((cells.new ≡ cells.old) × WritesNothing out.old out.new needed.old needed.new)
-        (λ w status v. (v ≡ w) × ByKind false w
-        ((cells.new ≡ cells.old) × WritesNothing out.old out.new needed.old needed.new)
-        (WorldFloods w version (box_of part.now) (cell_of_c_place from.now) cells.old cells.new
-        out.old out.new needed.old needed.new) status)
+        (λ w status v. (v ≡ w)
+        × WorldFloods w version (box_of part.now) (cell_of_c_place from.now) cells.old cells.new
+        out.old out.new needed.old needed.new status)
         handle.old.kept.value result handle.new.kept.value }
 {
     match handle.take(alloc) {

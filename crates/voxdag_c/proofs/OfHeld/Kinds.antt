@@ -9,7 +9,6 @@ use Rattle.vw_cell.specs.declared.boxes.Boxed.{Boxed}
 use Rattle.vw_cell.specs.declared.cells.Cell.{Cell}
 use Rattle.vw_cell.specs.Extents.{IsExtent}
 use Rattle.vw_cell.specs.Places.{FitsAt, IsInWorld}
-use Rattle.vox_read.specs.declared.voxels.Voxel.{Voxel}
 use Rattle.vox_read.specs.Contents.{Content}
 use Rattle.history_model.specs.declared.acts.Act.{Act}
 use Rattle.history_model.specs.declared.acts.Act.TheVariants.{Fill, Erase, Ball, Carve, Copy, Stamp, Tint, Undo, Redo}
@@ -19,13 +18,11 @@ use Rattle.history_model.specs.Tints.{IsTint}
 use Rattle.core_laws.specs.contents.Versions.{SameWorld}
 use Rattle.measure.specs.Changes.{differs}
 use Rattle.extract.specs.Saved.{file_of_box}
-use Rattle.extract.specs.Surface.{surface_of_box}
 use Rattle.store_run.specs.TintFiles.{file_of_tints}
 use Rattle.voxdag_c.specs.declared.held.worlds.CWorld.{CWorld}
 use Rattle.voxdag_c.specs.declared.held.places.CBox.{CBox}
 use Rattle.voxdag_c.specs.declared.held.places.CPlace.{CPlace}
 use Rattle.voxdag_c.specs.held.Places.{box_of, cell_of_c_place}
-use Rattle.voxdag_c.proofs.OfHeld.Fitting.{box_fits}
 use Rattle.voxdag_c.specs.held.Calls.{HasItsModel, WorldChanges, WorldTints, act_here, act_of_kind, cells_of_version, file_by_kind, file_of_version, held_side, store_side, tints_at}
 
 -- ---- a plain act, as a world takes it
@@ -189,9 +186,6 @@ module _ (w : CWorld) (tint : ℕ) (is : w.open.log.coloured ≡ true) (good : I
 pub not_tinted : (w : CWorld) → w.open.log.coloured ≡ false → w.open.log.coloured ≢ true
 not_tinted w is tinted = false≢true (sym is ∙ tinted)
 
-pub not_plain : (w : CWorld) → w.open.log.coloured ≡ true → w.open.log.coloured ≢ false
-not_plain w is plain = false≢true (sym plain ∙ is)
-
 -- ---- files
 
 module _ (w : CWorld) (version : ℕ) (part : Boxed) where
@@ -225,27 +219,12 @@ module _ (w : CWorld) (version : ℕ) (part : Boxed) where
 pub plain_side : (w : CWorld) → w.open.log.coloured ≡ false → held_side w ≡ 2 ^ w.open.plan.side
 plain_side w is = ap (λ (c : Bool). side_of_world c (store_side w)) is
 
-pub part_of_plain : (w : CWorld) (s : CBox) (b : Boxed) (side : ℕ) → w.open.log.coloured ≡ false
-    → 2 ^ side ≡ held_side w → b ≡ box_of s
-    → (IsSome (Some b) ↔ FitsAt (cell_of_c_place s.at) (cell_of_c_place s.size) (2 ^ side))
-    → FitsAt b.at b.size (2 ^ w.open.plan.side)
-part_of_plain w s b side is same of exactly =
-    subst (λ (n : ℕ). FitsAt b.at b.size n) (plain_side w is)
-    (box_fits side (held_side w) same s b of exactly)
-
 pub differs_plain : (w : CWorld) (a b : ℕ) (found : Option Boxed) → w.open.log.coloured ≡ false
     → IsExtent (2 ^ w.open.plan.side) (differs (cells_of_version w a) (cells_of_version w b)) found
     → IsExtent (held_side w) (differs (cells_of_version w a) (cells_of_version w b)) found
 differs_plain w a b found is told =
     subst (λ (n : ℕ). IsExtent n (differs (cells_of_version w a) (cells_of_version w b)) found)
     (sym (plain_side w is)) told
-
-pub surface_plain : (w : CWorld) (version : ℕ) (part : Boxed) (voxels : List Voxel)
-    → w.open.log.coloured ≡ false
-    → voxels ≡ surface_of_box (2 ^ w.open.plan.side) (cells_of_version w version) part
-    → voxels ≡ surface_of_box (held_side w) (cells_of_version w version) part
-surface_plain w version part voxels is told =
-    told ∙ ap (λ (n : ℕ). surface_of_box n (cells_of_version w version) part) (sym (plain_side w is))
 
 -- ---- two versions
 

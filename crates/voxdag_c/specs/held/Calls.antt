@@ -40,12 +40,13 @@ use Rattle.conformance.specs.Kinds.{answer_at}
 use Rattle.conformance.specs.QuestionAnswers.{AnswersTo}
 use Rattle.conformance.specs.scripts.Sessions.{ExtendsWith}
 use Rattle.store_run.specs.Changing.{Changes, AnswersForget, MakesVersion}
+use Rattle.store_run.specs.TintChanges.{tints_differ}
 use Rattle.store_run.specs.TintFiles.{file_of_tints}
 use Rattle.store_run.specs.Worlds.{size_of}
 use Rattle.voxdag_c.specs.declared.held.places.CPlace.{CPlace}
 use Rattle.voxdag_c.specs.declared.held.shown.CShown.{CShown}
 use Rattle.voxdag_c.specs.declared.held.worlds.CWorld.{CWorld}
-use Rattle.voxdag_c.specs.held.Places.{cell_of_c_place, shown_of}
+use Rattle.voxdag_c.specs.held.Places.{cell_of_c_place, ones, shown_of}
 
 -- the world's side in cells, that of its store, which cells a version has, and their tints
 abbrev pub held_side : CWorld → ℕ
@@ -317,22 +318,31 @@ pub data WorldJournals (w : CWorld) (old new : List ℕ) (before needed : ℕ) :
 
 -- ---- two versions beside each other, and what can be seen of one
 
--- the least box of all cells that one of two versions has and the other hasn't, where there are any
+-- the least box of all cells whose tints differ in two versions, where there are any: of all that
+-- one has and the other hasn't, where cells have no tints
 pub data WorldDiffers (w : CWorld) (a b : ℕ) (Written : Option Boxed → Type 0)
     (Untouched : Type 0) : ℕ → Type 0 where
   told : (least : Option Boxed) → HoldsVersion w.open.log a → HoldsVersion w.open.log b
-      → IsExtent (held_side w) (differs (cells_of_version w a) (cells_of_version w b)) least
+      → IsExtent (held_side w) (tints_differ (tints_at w a) (tints_at w b)) least
+      → (w.open.log.coloured ≡ false
+      → IsExtent (held_side w) (differs (cells_of_version w a) (cells_of_version w b)) least)
       → Written least → WorldDiffers w a b Written Untouched 0
   first : (status : ℕ) → IsGone w.open.log a status → Untouched
       → WorldDiffers w a b Written Untouched status
   second : (status : ℕ) → HoldsVersion w.open.log a → IsGone w.open.log b status → Untouched
       → WorldDiffers w a b Written Untouched status
 
+-- the tints that are told of set cells: their own, or 1 where cells have none
+abbrev pub tints_by_kind : Bool → Tints → Tints
+tints_by_kind true held = held
+tints_by_kind false held = ones
+
 -- the set cells of a box of a version at whose side an unset cell or the world's outside is, in
--- saving order
+-- saving order, each with its tint
 abbrev pub surface_of_version : CWorld → ℕ → Boxed → List CShown
 surface_of_version w version part =
-    map shown_of (surface_of_box (held_side w) (cells_of_version w version) part)
+    map (shown_of (tints_by_kind w.open.log.coloured (tints_at w version)) part.at)
+    (surface_of_box (held_side w) (cells_of_version w version) part)
 
 -- these cells are written
 pub data WorldShows (w : CWorld) (version : ℕ) (part : Boxed) (old new : List CShown)

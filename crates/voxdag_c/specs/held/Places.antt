@@ -4,6 +4,8 @@ use Rattle.vw_cell.specs.declared.cells.Cell.{Cell}
 use Rattle.vw_cell.specs.declared.boxes.Boxed.{Boxed}
 use Rattle.vw_cell.specs.declared.balls.Ball.{Ball}
 use Rattle.vox_read.specs.declared.voxels.Voxel.{Voxel}
+use Rattle.history_model.specs.Tints.{Tints}
+use Rattle.store_run.specs.TintFiles.{its_tint}
 use Rattle.voxdag_c.specs.declared.held.places.CPlace.{CPlace}
 use Rattle.voxdag_c.specs.declared.held.places.CBox.{CBox}
 use Rattle.voxdag_c.specs.declared.held.shown.CShown.{CShown}
@@ -32,7 +34,15 @@ abbrev pub hit_of : Bool → CPlace → Option Cell
 hit_of false p = None
 hit_of true p = Some (cell_of_c_place p)
 
--- a cell that can be seen, of a world whose cells have no tints: a voxel has its bare sides in the
--- place of its colour
-abbrev pub shown_of : Voxel → CShown
-shown_of v = record { x = v.x; y = v.y; z = v.z; tint = 1; sides = v.colour }
+-- a cell that can be seen, of which this is the tint: a voxel has its bare sides in the place of its
+-- colour
+abbrev pub shown_by : (Voxel → ℕ) → Voxel → CShown
+shown_by tint v = record { x = v.x; y = v.y; z = v.z; tint = tint v; sides = v.colour }
+
+-- the same of a world with these tints, in which the cell is told from a corner
+abbrev pub shown_of : Tints → Cell → Voxel → CShown
+shown_of tints corner v = shown_by (its_tint tints corner) v
+
+-- each set cell has tint 1
+abbrev pub ones : Tints
+ones c = 1

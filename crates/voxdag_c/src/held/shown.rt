@@ -1,9 +1,8 @@
 //! Cells that can be seen, as C gets them.
-ghost use Rattle.std.specs.Prelude.{◌≡◌, ◌≤◌, ◌++◌, length, drop, map};
-ghost use Rattle.voxdag_c.specs.held.Calls.{WritesItems};
-ghost use Rattle.voxdag_c.specs.held.Places.{shown_of};
+ghost use Rattle.std.specs.Prelude.{◌≡◌, ◌≤◌, ◌++◌, ℕ, length, drop, map};
+ghost use Rattle.vox_read.specs.declared.voxels.Voxel.{Voxel};
+ghost use Rattle.voxdag_c.specs.held.Places.{shown_by};
 
-use crate::held::statuses as status;
 use vox_read::Voxel;
 
 /// A cell that can be seen: its place from a box's corner on, its tint, and which sides are bare,
@@ -19,38 +18,38 @@ pub struct CShown {
 }
 
 impl CShown {
-    fn of(voxel: Voxel) -> CShown
-        ensures { result ≡ shown_of voxel }
+    fn of(voxel: Voxel, tint: u8) -> CShown
+        ensures { result ≡ shown_by (λ v. tint) voxel }
     {
         CShown {
             x: voxel.x,
             y: voxel.y,
             z: voxel.z,
-            tint: 1,
+            tint,
             sides: voxel.colour,
         }
     }
 }
 
-/// Puts the cells at the front, where there is room for all of them, and says how many they are.
-pub(crate) fn put_shown(out: &mut [CShown], needed: &mut usize, voxels: &[Voxel]) -> u32
-    ensures writes { WritesItems (map shown_of voxels.now) out.old out.new needed.new result }
-    ensures room { length out.new ≡ length out.old }
-{
-    *needed = voxels.len();
-    if voxels.len() > out.len() {
-        return status::TOO_SMALL;
-    }
-    copy_shown(out, voxels);
-    status::DONE
-}
-
-// Puts the cells over the first ones.
-fn copy_shown(out: &mut [CShown], voxels: &[Voxel])
+/// Puts the cells over the first ones, each with tint 1.
+pub(crate) fn copy_shown(out: &mut [CShown], voxels: &[Voxel])
     requires { length voxels.now ≤ length out.old }
-    ensures { out.new ≡ map shown_of voxels.now ++ drop (length voxels.now) out.old }
+    ensures { out.new ≡ map (shown_by (λ v. 1)) voxels.now ++ drop (length voxels.now) out.old }
 {
     for i in 0..voxels.len() {
-        out[i] = CShown::of(voxels[i]);
+        out[i] = CShown::of(voxels[i], 1);
+    }
+}
+
+/// Puts the cells over the first ones, each with the tint that is listed in its place.
+pub(crate) fn copy_tinted(out: &mut [CShown], voxels: &[Voxel], tints: &[u8])
+    requires room { length voxels.now ≤ length out.old }
+    requires long { length tints.now ≡ length voxels.now }
+    ensures room { length out.new ≡ length out.old }
+    ensures puts { (f : Voxel → ℕ) → tints.now ≡ map f voxels.now
+        → out.new ≡ map (shown_by f) voxels.now ++ drop (length voxels.now) out.old }
+{
+    for i in 0..voxels.len() {
+        out[i] = CShown::of(voxels[i], tints[i]);
     }
 }

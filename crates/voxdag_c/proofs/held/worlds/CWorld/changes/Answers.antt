@@ -1,15 +1,20 @@
-use Rattle.std.proofs.Common.{refl, sym, ◌∙◌}
-use Rattle.voxdag_c.specs.held.Calls.{ByKind}
-use Rattle.voxdag_c.proofs.OfHeld.Kinds.{not_plain}
+use Rattle.std.proofs.Common.{refl, sym}
+use Rattle.voxdag_c.specs.held.Calls.{WorldDiffers}
+use Rattle.voxdag_c.proofs.OfHeld.Kinds.{differs_plain}
 use Rattle.voxdag_c.proofs.held.worlds.CWorld.changes.Goals as goal
 
-pub returns-then-tint-clause-differs : goal.returns-then-tint-clause-differs
-returns-then-tint-clause-differs c =
-    ByKind.other_kind (not_plain c.args.self.now (sym c.tint.ensures ∙ c.if-tint.true)) (refl, refl)
+pub returns-then-not-holds_version-clause-differs : goal.returns-then-not-holds_version-clause-differs
+returns-then-not-holds_version-clause-differs c =
+    WorldDiffers.first c.why_gone.result c.why_gone.ensures (refl, refl)
+
+pub returns-then-not-holds_version-2-clause-differs : goal.returns-then-not-holds_version-2-clause-differs
+returns-then-not-holds_version-2-clause-differs c =
+    WorldDiffers.second c.why_gone-then-not-holds_version-2.result
+    (c.if-not-holds_version.ensures.0 refl) c.why_gone-then-not-holds_version-2.ensures (refl, refl)
 
 pub returns-clause-differs : goal.returns-clause-differs
 returns-clause-differs c =
-    ByKind.does c.plain_changes.result (sym c.tint.ensures ∙ c.if-tint.false) c.plain_changes.ensures.differs
-
-pub plain_changes-requires : goal.plain_changes-requires
-plain_changes-requires c = record { plain = sym c.tint.ensures ∙ c.if-tint.false }
+    WorldDiffers.told c.changes.result (c.if-not-holds_version.ensures.0 refl)
+    (c.if-not-holds_version-2.ensures.0 refl) c.changes.ensures.tints
+    (λ plain. differs_plain c.args.self.now c.args.a c.args.b c.changes.result plain
+    (c.changes.ensures.cells plain)) (sym c.put_extent.ensures.found, c.put_extent.ensures.none)
