@@ -44,6 +44,17 @@ fn look_by_turn<R: Wait>(rt: &R, table: &NodeTable, pass: &mut Pass, v: u32) -> 
     (at, Shown::Kept(root))
 }
 
+// The session whose pass the turn lends.
+fn session_by_turn<R: Wait>(rt: &R, table: &NodeTable, pass: &mut Pass) -> u16
+    requires { IsSpare table.now pass.old }
+    ensures { IsSpare table.now pass.new }
+{
+    let mut turn = sure(rt, table, pass);
+    let session = turn.pass().number();
+    turn.leave();
+    session
+}
+
 // An undo or a redo by the turn: the record and the version that it goes to.
 fn go_by_turn<R: Wait, L: Ledger>(
     rt: &R,
@@ -115,9 +126,10 @@ const WENT: [Went; 4] = [
     Went::Nowhere,
 ];
 
-// What the turn tells, look by look and act by act.
+// What the turn tells, look by look and act by act, and whose pass it lends.
 #[derive(Clone, Copy, Debug, PartialEq, Eq)]
 struct Told {
+    session: u16,
     looks: [(u32, Shown); 7],
     went: [Went; 4],
 }
@@ -133,6 +145,7 @@ fn told_by_turn<R: Wait, L: Ledger>(rt: &R, table: &NodeTable, a: &mut Pass, bla
     let mut steps: Steps<L> = Steps::start(blank);
     let _full = edit_uniform(rt, table, a, 1, true, &mut steps);
     let _blank = edit_uniform(rt, table, a, 2, false, &mut steps);
+    let session = session_by_turn(rt, table, a);
     let zero = look_by_turn(rt, table, a, 0);
     let one = look_by_turn(rt, table, a, 1);
     let two = look_by_turn(rt, table, a, 2);
@@ -146,6 +159,7 @@ fn told_by_turn<R: Wait, L: Ledger>(rt: &R, table: &NodeTable, a: &mut Pass, bla
     let last = look_by_turn(rt, table, a, 4);
     let nowhere = go_by_turn(rt, table, a, 7, &Act::Redo, &mut steps);
     Told {
+        session,
         looks: [zero, one, two, three, marked, behind, last],
         went: [undone, refused, redone, nowhere],
     }
@@ -175,6 +189,7 @@ fn a_turn_tells_of_versions_and_goes_back_and_on(rt: HostRuntime) -> Result<(), 
     let plan = Plan::even(side, 1, 2).ok_or("a plan")?;
     let (table, passes) = begun(rt.alloc(), &plan, 1)?;
     let told = told_last(&rt, &table, passes).ok_or("a pass")?;
+    assert_eq!(rt; told.session, 0);
     for k in 0..7 {
         assert_eq!(rt; told.looks[k], LOOKS[k], "look {k}");
     }
