@@ -44,7 +44,9 @@ fn share_of<T: Task, M: Memo<T>, N: NodeStore, L: Ledger>(
     }
 }
 
-// The block that the task makes, or the full bucket that was met.
+// The block that the task makes, or the full bucket that was met. A block that is known as a whole
+// costs no call: the walk calls itself in `fresh` alone.
+#[inline(always)]
 #[cycle(walk)]
 fn build<T: Task, M: Memo<T>, N: NodeStore, L: Ledger>(
     store: &mut N,
@@ -79,6 +81,7 @@ fn build<T: Task, M: Memo<T>, N: NodeStore, L: Ledger>(
 }
 
 // A block that isn't remembered, and is from here on.
+#[inline(never)]
 #[cycle(walk)]
 fn fresh<T: Task, M: Memo<T>, N: NodeStore, L: Ledger>(
     store: &mut N,
