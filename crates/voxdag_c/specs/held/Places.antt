@@ -34,8 +34,8 @@ abbrev pub hit_of : Bool → CPlace → Option Cell
 hit_of false p = None
 hit_of true p = Some (cell_of_c_place p)
 
--- a cell that can be seen, of which this is the tint: a voxel has its bare sides in the place of its
--- colour
+-- a cell that can be seen, of which this is the tint: a voxel has its bare sides in the place of
+-- its colour
 abbrev pub shown_by : (Voxel → ℕ) → Voxel → CShown
 shown_by tint v = record { x = v.x; y = v.y; z = v.z; tint = tint v; sides = v.colour }
 
