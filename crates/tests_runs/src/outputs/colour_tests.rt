@@ -95,6 +95,29 @@ fn roomy_buckets_refuse_no_tint(rt: HostRuntime) -> Result<(), Fail> {
     has(&shelf, "s.out", TWICE_ANSWERS)
 }
 
+// Tint 5 needs two blocks of side 16, of all cells and of bits 0 and 2, and tint 2 that of all
+// cells and one of bit 1. A bucket of two slots has no room for the third of these, so the cell
+// keeps tint 5. The refused fill holds nothing: behind the version with tint 5, tint 2 has room.
+const CROWDED: &str = "fill 0 0 0 1 1 1 5\nfill 0 0 0 1 1 1 2\ncolour 0 0 0\nundo\nforget 1\n\
+     fill 0 0 0 1 1 1 2\ncolour 0 0 0\n";
+
+const CROWDED_ANSWERS: &str =
+    "1 @1 ok\n2 @1 full 2 0\n3 @1 colour 5\n4 @2 ok\n5 @2 forgot 1\n6 @3 ok\n7 @3 colour 2\n";
+
+const CROWDED_JOURNAL: &str =
+    "voxdag journal 2\nside 8\n1 0 1 fill 0 0 0 1 1 1 5\n2 0 4 undo\n3 0 6 fill 0 0 0 1 1 1 2\n\
+     mark 1 2 0 5\nend\n";
+
+#[test]
+fn a_crowded_bucket_refuses_a_tint(rt: HostRuntime) -> Result<(), Fail> {
+    let mut shelf = shelf_with(rt.alloc(), CROWDED.as_bytes())?;
+    let line = "run --colours --buckets 1 --cap 2 --side 8 --journal j one.vox s";
+    let printed = "scripts 1 records 3 marks 1 nodes 5\n";
+    ends(&rt, rt.alloc(), line, &mut shelf, 0, printed)?;
+    has(&shelf, "s.out", CROWDED_ANSWERS)?;
+    has(&shelf, "j", CROWDED_JOURNAL)
+}
+
 // Scripts, the lines that they put, and their transcripts.
 const ROWS: &[(&str, &str, &str)] = &[
     // a fill without a tint gives tint 1
