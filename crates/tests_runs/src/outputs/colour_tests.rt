@@ -97,15 +97,16 @@ fn roomy_buckets_refuse_no_tint(rt: HostRuntime) -> Result<(), Fail> {
 
 // Tint 5 needs two blocks of side 16, of all cells and of bits 0 and 2, and tint 2 that of all
 // cells and one of bit 1. A bucket of two slots has no room for the third of these, so the cell
-// keeps tint 5. The refused fill holds nothing: behind the version with tint 5, tint 2 has room.
+// keeps tint 5. The refused fill holds nothing: behind the version with tint 5 there is room for
+// the two blocks of another cell.
 const CROWDED: &str = "fill 0 0 0 1 1 1 5\nfill 0 0 0 1 1 1 2\ncolour 0 0 0\nundo\nforget 1\n\
-     fill 0 0 0 1 1 1 2\ncolour 0 0 0\n";
+     fill 4 0 0 1 1 1 2\ncolour 4 0 0\n";
 
 const CROWDED_ANSWERS: &str =
     "1 @1 ok\n2 @1 full 2 0\n3 @1 colour 5\n4 @2 ok\n5 @2 forgot 1\n6 @3 ok\n7 @3 colour 2\n";
 
 const CROWDED_JOURNAL: &str =
-    "voxdag journal 2\nside 8\n1 0 1 fill 0 0 0 1 1 1 5\n2 0 4 undo\n3 0 6 fill 0 0 0 1 1 1 2\n\
+    "voxdag journal 2\nside 8\n1 0 1 fill 0 0 0 1 1 1 5\n2 0 4 undo\n3 0 6 fill 4 0 0 1 1 1 2\n\
      mark 1 2 0 5\nend\n";
 
 #[test]
