@@ -71,17 +71,6 @@ def journal_of(about: About, acts: list[str]) -> bytes:
     return "".join(line + "\n" for line in lines).encode()
 
 
-def world_of(make: Any, about: About, file: bytes, acts: list[str]) -> Any:
-    """A world that goes on from the acts of its log."""
-    try:
-        return make.open_journal(journal_of(about, acts), models=file, cap=about.cap)
-    except voxdag.NotExported:
-        world = make(about.side, tints=about.tints, cap=about.cap, models=file)
-        for act in acts:
-            perform(world, act)
-        return world
-
-
 # ---- VOX files
 
 def chunks_of(file: bytes) -> list[tuple[bytes, bytes]]:
@@ -180,7 +169,7 @@ class Room:
 
     def _open_world(self, acts: list[str]) -> None:
         self.file = joined(self.files)
-        self.world = world_of(self._make, self.about, self.file, acts)
+        self.world = self._make.open_journal(journal_of(self.about, acts), models=self.file, cap=self.about.cap)
         self.palette = palette_of(self.files)
         self.models = []
         try:

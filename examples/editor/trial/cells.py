@@ -15,7 +15,6 @@ from boxes import grown, size_of
 from logs import About, FileLog
 from messages import EDITS, Edit, Refusal
 from room import Room, perform
-from server import lacks_of_tints
 from voxdag import slow
 
 from trial.started import MODELS, told
@@ -110,7 +109,8 @@ async def wrong_parts(log: Path, make: Any, tints: bool) -> list[str]:
 def cells(work: Path) -> None:
     kinds = [("the slow world", slow.World, True), ("the slow world without tints", slow.World, False)]
     try:
-        kinds += [("the library", voxdag.World, not lacks_of_tints()), ("the library without tints", voxdag.World, False)]
+        voxdag.load()
+        kinds += [("the library", voxdag.World, True), ("the library without tints", voxdag.World, False)]
     except OSError:
         print("passed over: what a page has by the library, since there is none", flush=True)
     for n, (kind, make, tints) in enumerate(kinds):
