@@ -1,26 +1,12 @@
-"""Boxes of cells: what a record can change, with the neighbours, in few boxes, cut into parts that are sent."""
+"""Boxes of cells: what changed, with the neighbours, in few boxes, cut into parts that are sent."""
 
 from __future__ import annotations
 
-from typing import Optional, Sequence
+from typing import Optional
 
 PART = 64  # the side of the parts in which cells are sent
 
 Box = tuple[int, ...]
-
-
-def reach_of(act: str, side: int, models: Sequence[Sequence[int]]) -> Box:
-    """A box that has every cell that an edit can change. Undos and redos have none of their own."""
-    name, *words = act.split(" ")
-    n = [int(word) for word in words if word != "to"]
-    if name in ("fill", "erase"):
-        return tuple(n[:6])
-    if name in ("ball", "carve"):
-        low = [max(0, at - n[3]) for at in n[:3]]
-        return (*low, *(min(side, n[i] + n[3] + 1) - low[i] for i in range(3)))
-    if name == "copy":
-        return (*n[6:], *n[3:6])
-    return (*n[1:], *models[n[0]])
 
 
 def grown(box: Box, side: int) -> Box:

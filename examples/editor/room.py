@@ -12,14 +12,12 @@ import base64
 import secrets
 import struct
 from collections import deque
-from functools import reduce
 from typing import Any, Callable, NamedTuple, Optional
 
 import voxdag
-from boxes import Box, common, few, grown, parts_of, reach_of, union
+from boxes import Box, common, few, grown, parts_of
 from logs import About, Log, LogDown, Opened, Record
 from messages import Edit, Question, Refusal, of_library, text_of
-from surface import lists_cells, surface_of
 
 MOST_RECORDS = 65535
 MOST_WAITING = 64   # edits of one person that aren't answered yet
@@ -71,17 +69,6 @@ def journal_of(about: About, acts: list[str]) -> bytes:
     """The journal of a world whose records are all of session 0, each with its number as its line."""
     lines = [f"voxdag journal {1 + about.tints}", f"side {about.side}", *(f"{n} 0 {n} {act}" for n, act in enumerate(acts, 1)), "end"]
     return "".join(line + "\n" for line in lines).encode()
-
-
-def world_of(make: Any, about: About, file: bytes, acts: list[str]) -> Any:
-    """A world that goes on from the acts of its log."""
-    try:
-        return make.open_journal(journal_of(about, acts), models=file, cap=about.cap)
-    except voxdag.NotExported:
-        world = make(about.side, tints=about.tints, cap=about.cap, models=file)
-        for act in acts:
-            perform(world, act)
-        return world
 
 
 # ---- VOX files
@@ -145,7 +132,6 @@ class Room:
         self._next = 0
         self.keys: dict[str, int] = {}
         self.records: list[Record] = []
-        self._reaches: list[Box] = []
         self.asked: deque[tuple[Question, str]] = deque(maxlen=MOST_ASKED)
         self.trail = Trail()
         self._shown = 0
@@ -183,9 +169,8 @@ class Room:
 
     def _open_world(self, acts: list[str]) -> None:
         self.file = joined(self.files)
-        self.world = world_of(self._make, self.about, self.file, acts)
+        self.world = self._make.open_journal(journal_of(self.about, acts), models=self.file, cap=self.about.cap)
         self.palette = palette_of(self.files)
-        self._lists_cells = lists_cells(self.world)
         self.models = []
         try:
             while len(self.models) < 1024:
@@ -207,18 +192,9 @@ class Room:
 
     def _note(self, record: Record) -> None:
         """A record that the world has."""
-        self._reaches.append(self._reach(record.act))
         self.records.append(record)
         self.keys.setdefault(record.key, self.head)
         self.trail = self.trail.after(record.act.split(" ", 1)[0], self.head)
-
-    def _reach(self, act: str) -> Box:
-        """A box that has every cell which the next record changes: an undo and a redo those of the edit that they are of."""
-        if act == "undo":
-            return self._reaches[self.trail.now - 1]
-        if act == "redo":
-            return self._reaches[self.trail.future[0] - 1]
-        return reach_of(act, self.about.side, self.models)
 
     # ---- edits
 
@@ -432,27 +408,15 @@ class Room:
 
     def cells_of(self, version: int, part: Box) -> dict[str, Any]:
         try:
-            if self._lists_cells:
-                cells = self.world.surface_bytes(version, part)
-            else:
-                cells = surface_of(self.world, self.about.side, version, part)
+            cells = self.world.surface_bytes(version, part)
         except voxdag.Refused as refused:
             raise of_library(refused) from None
         return {"box": part, "cells": base64.b64encode(cells).decode()}
 
-    def _difference(self, first: int, version: int) -> Optional[Box]:
-        """A box that has every cell in which two versions differ, or None where none does."""
-        if self._lists_cells:
-            return self.world.changes(first, version)
-        if 0 in (first, version):
-            return self.world.bounds(max(first, version))
-        reaches = self._reaches[min(first, version):max(first, version)]
-        return None if self.world.same(first, version) else reduce(union, reaches)
-
     def parts_between(self, first: int, version: int) -> list[Box]:
         """The parts whose cells can look different in two versions."""
         try:
-            box = self._difference(first, version)
+            box = self.world.changes(first, version)
         except voxdag.Refused as refused:
             raise of_library(refused) from None
         return parts_of(grown(box, self.about.side)) if box else []
@@ -470,10 +434,11 @@ class Room:
             await asyncio.sleep(TELL_SECONDS)
 
     def changed(self, first: int, version: int) -> list[dict[str, Any]]:
-        """The cells of the places that records changed, by their records: people who build far apart have no box that is
-        between them."""
-        all_of_it = self._difference(first, version)
-        changed = [common(reach, all_of_it) for reach in self._reaches[first:version]] if all_of_it else []
+        """The cells of the places that changed, record by record: people who build far apart have no box that is between
+        them."""
+        all_of_it = self.world.changes(first, version)
+        each = [self.world.changes(n, n + 1) for n in range(first, version)] if all_of_it else []
+        changed = [common(box, all_of_it) for box in each if box]
         boxes = few([grown(box, self.about.side) for box in changed if box])
         return [self.cells_of(version, part) for box in boxes for part in parts_of(box)]
 

@@ -20,7 +20,6 @@ import resource
 import secrets
 import signal
 import sys
-import tempfile
 import time
 from pathlib import Path
 from typing import Any, Optional
@@ -36,14 +35,10 @@ from logs import About, FileLog, NotMine, SharedLog
 from messages import EDITS, Refusal, edit_of, identity, name_of, of_library, pointed_of, question_of, read, shown_of, text_of
 from room import Room
 
-OF_TINTS = ("open_as", "fill_tint", "ball_tint", "colour")
 MOST_FRAME = 1 << 20
 MOST_FILE = 1 << 20
 MOST_UNREAD = 1000
 MOST_REFUSED = 2000
-NO_MODELS = b"VOX \x96\0\0\0MAIN" + bytes(8)
-ROOT = HERE.parent.parent
-PROGRAMS = [ROOT / ".build/voxdag", ROOT / "crates/voxdag/out/voxdag", ROOT / ".build/tried"]
 SAFE = {
     "Content-Security-Policy": "default-src 'self'; base-uri 'none'; frame-ancestors 'none'; form-action 'none'",
     "X-Content-Type-Options": "nosniff",
@@ -130,7 +125,7 @@ class Server:
             self._test(request)
             answer = await handler(request)
         except Refusal as refusal:
-            status = {"origin": 403, "token": 401, "not_there": 404, "too_long": 413, "full_house": 503}.get(refusal.name, 400)
+            status = {"origin": 403, "token": 401, "too_long": 413, "full_house": 503}.get(refusal.name, 400)
             answer = web.json_response({"refused": refusal.name, "words": refusal.words}, status=status)
         except web.HTTPRequestEntityTooLarge:
             answer = web.json_response({"refused": "too_long", "words": f"a file has at most {MOST_FILE} bytes"}, status=413)
@@ -174,26 +169,9 @@ class Server:
 
     async def _dag(self, request: web.Request) -> web.Response:
         try:
-            data = self.room.world.dag()
-        except (voxdag.NotExported, voxdag.OtherKind):
-            data = await self._dag_by_program()
+            return self._file(self.room.world.dag(), "world.dag")
         except voxdag.Refused as refused:
             raise of_library(refused) from None
-        return self._file(data, "world.dag")
-
-    async def _dag_by_program(self) -> bytes:
-        """The same of the journal, by the program: for a library that is older than the call."""
-        program = next((path for path in PROGRAMS if path.is_file()), None)
-        if program is None:
-            raise Refusal("not_there", "neither the library nor a program at hand writes files of versions")
-        with tempfile.TemporaryDirectory() as folder:
-            names = [Path(folder) / name for name in ("models.vox", "journal.txt", "world.dag")]
-            names[0].write_bytes(self.room.file or NO_MODELS)
-            names[1].write_bytes(self.room.world.journal())
-            made = await asyncio.create_subprocess_exec(program, "dag", *names, stdout=asyncio.subprocess.DEVNULL)
-            if await made.wait():
-                raise Refusal("store_full", "a bucket has no room for all versions at once")
-            return names[2].read_bytes()
 
     async def _models(self, request: web.Request) -> web.Response:
         return self._file(self.room.file, "models.vox")
@@ -353,19 +331,11 @@ def command(arguments: Optional[list[str]] = None) -> argparse.Namespace:
     return words
 
 
-def lacks_of_tints() -> list[str]:
-    """The calls of worlds with tints that the library lacks."""
-    return [name for name in OF_TINTS if not voxdag.load().exports(name)]
-
-
 async def serve(words: argparse.Namespace) -> None:
     log = FileLog(words.world) if words.world else SharedLog(words.etcd, words.name)
     room = Room(log, voxdag.slow.World if words.slow else voxdag.World)
     models = words.models.read_bytes() if words.models else b""
-    has_tints = words.slow or not lacks_of_tints()
-    if not (has_tints or words.plain):
-        print("this library has no tints: cells of a new world are set or clear", flush=True)
-    await room.open(About(words.side, has_tints and not words.plain, words.cap), models)
+    await room.open(About(words.side, not words.plain, words.cap), models)
     server = Server(room, words)
     runner = web.AppRunner(server.app(), access_log=None)
     await runner.setup()

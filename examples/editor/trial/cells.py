@@ -1,5 +1,5 @@
-"""What a page has by the parts that it is sent, beside what can be seen of the slow world: by the slow world itself, by
-one that lists no cells and compares no versions, and by the library."""
+"""What a page has by the parts that it is sent, beside what can be seen of the slow world: by the slow world itself and by
+the library, with tints and without."""
 
 from __future__ import annotations
 
@@ -11,10 +11,10 @@ from types import SimpleNamespace
 from typing import Any
 
 import voxdag
+from boxes import grown, size_of
 from logs import About, FileLog
 from messages import EDITS, Edit, Refusal
 from room import Room, perform
-from server import lacks_of_tints
 from voxdag import slow
 
 from trial.started import MODELS, told
@@ -22,16 +22,6 @@ from trial.started import MODELS, told
 SIDE = 32
 ROWS = 40
 Seen = dict[tuple[int, ...], tuple[int, int]]
-
-
-class Shy(slow.World):
-    """A world with tints as of a library that lists cells of worlds without tints alone."""
-
-    def surface_bytes(self, version: int, box: Any) -> bytes:
-        raise voxdag.OtherKind()
-
-    def changes(self, a: int, b: int) -> Any:
-        raise voxdag.OtherKind()
 
 
 def edit_by_chance(rng: Random, models: list[Any], tints: bool) -> Edit:
@@ -74,6 +64,14 @@ def put(shown: Seen, parts: list[dict[str, Any]]) -> Seen:
     return shown
 
 
+def most_sent(beside: slow.World, first: int) -> int:
+    """How many cells the parts of a row of edits have at most: those of the least boxes that changed, with neighbours."""
+    if beside.same(first, beside.newest):
+        return 0
+    boxes = [beside.changes(n, n + 1) for n in range(first, beside.newest)]
+    return sum(size_of(grown(box, SIDE)) for box in boxes if box)
+
+
 async def made(room: Room, edit: Edit) -> None:
     """Makes an edit, or is refused it."""
     done: asyncio.Future[int | Refusal] = asyncio.get_running_loop().create_future()
@@ -91,10 +89,13 @@ async def wrong_parts(log: Path, make: Any, tints: bool) -> list[str]:
             first = room.head
             for _ in range(rng.randrange(1, 4)):
                 await made(room, edit_by_chance(rng, room.models, tints))
-            shown = put(shown, room.changed(first, room.head))
-            if shown != truth(beside, room, room.head):
+            parts = room.changed(first, room.head)
+            shown, seen = put(shown, parts), truth(beside, room, room.head)
+            if shown != seen:
                 wrong.append(f"from {first} to {room.head}")
-                shown = truth(beside, room, room.head)
+            if sum(size_of(part["box"]) for part in parts) > most_sent(beside, first):
+                wrong.append(f"more than changed from {first} to {room.head}")
+            shown = seen
         for _ in range(ROWS):
             a, b = [rng.choice([0, rng.randrange(room.head + 1)]) for _ in range(2)]
             parts = [room.cells_of(b, part) for part in room.parts_between(a, b)]
@@ -106,11 +107,12 @@ async def wrong_parts(log: Path, make: Any, tints: bool) -> list[str]:
 
 
 def cells(work: Path) -> None:
-    kinds = [("the slow world", slow.World, True), ("one that lists no cells", Shy, True), ("one without tints", slow.World, False)]
+    kinds = [("the slow world", slow.World, True), ("the slow world without tints", slow.World, False)]
     try:
-        kinds.append(("the library", voxdag.World, not lacks_of_tints()))
+        voxdag.load()
+        kinds += [("the library", voxdag.World, True), ("the library without tints", voxdag.World, False)]
     except OSError:
         print("passed over: what a page has by the library, since there is none", flush=True)
     for n, (kind, make, tints) in enumerate(kinds):
         wrong = asyncio.run(wrong_parts(work / f"cells-{n}.world", make, tints))
-        told(f"a page has what can be seen, after {ROWS} rows of edits and from version to version, by {kind}", not wrong, wrong)
+        told(f"a page has what can be seen and is sent what changed, in {ROWS} rows of edits and from version to version, by {kind}", not wrong, wrong)
