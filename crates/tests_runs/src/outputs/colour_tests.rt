@@ -97,8 +97,7 @@ fn roomy_buckets_refuse_no_tint(rt: HostRuntime) -> Result<(), Fail> {
 
 // Tint 5 needs two blocks of side 16, of all cells and of bits 0 and 2, and tint 2 that of all
 // cells and one of bit 1. A bucket of two slots has no room for the third of these, so the cell
-// keeps tint 5. The refused fill holds nothing: behind the version with tint 5 there is room for
-// the two blocks of another cell.
+// keeps tint 5. Behind the version with tint 5 there is room for the two blocks of another cell.
 const CROWDED: &str = "fill 0 0 0 1 1 1 5\nfill 0 0 0 1 1 1 2\ncolour 0 0 0\nundo\nforget 1\n\
      fill 4 0 0 1 1 1 2\ncolour 4 0 0\n";
 
