@@ -26,15 +26,15 @@ HoldsLine (Failed line) name = string_bytes line ≡ write_fault_line name
 HoldsLine Memory name = ⊤
 
 -- the outputs up to one of them were written, and that one was not
-pub record StopsAmong (r : NamedOutputRefused) (outputs : List Named) (old new : ShelfState) : Type 0
-  where
-    pub name : List ℕ
-    pub holds : HoldsLine r name
-    pub stops : StopsWith (cause_of r) name outputs old.files new.files old.faults new.faults
+pub record StopsAmong (r : NamedOutputRefused) (outputs : List Named) (old new : ShelfState)
+    : Type 0 where
+  pub name : List ℕ
+  pub holds : HoldsLine r name
+  pub stops : StopsWith (cause_of r) name outputs old.files new.files old.faults new.faults
 
 -- these outputs were written, or some first ones of them
-abbrev pub Writes : {X : Type 0} → Result X NamedOutputRefused → List Named → ShelfState → ShelfState
-    → Type 0
+abbrev pub Writes : {X : Type 0} → Result X NamedOutputRefused → List Named → ShelfState
+    → ShelfState → Type 0
 Writes (Ok x) outputs old new =
     AreWritten outputs old.files new.files × (old.faults ≤ new.faults)
 Writes (Err r) outputs old new = StopsAmong r outputs old new

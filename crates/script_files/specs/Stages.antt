@@ -108,7 +108,8 @@ WritesClosed asked r (Ok w) old new = WroteHistory asked r w.tally w.ended old n
 WritesClosed asked r (Err refused) old new = StopsClosed asked r refused old new
 
 -- or it wasn't closed, its sessions had one history, and nothing was written
-pub record StopsOpen (r : RunState) (refused : NamedOutputRefused) (old new : ShelfState) : Type 0 where
+pub record StopsOpen (r : RunState) (refused : NamedOutputRefused) (old new : ShelfState)
+    : Type 0 where
   pub had : HadHistory r.tint r.plan r.models r.sessions
   pub stops : StopsAmong refused [] old new
 
