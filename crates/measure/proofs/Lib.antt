@@ -4,8 +4,8 @@ mod TallyLaws
 mod EightLeaves
 pub mod SubjectLaws
 mod AxisLaws
-mod BareLaws
-mod BareLeaves
+pub mod BareLaws
+pub mod BareLeaves
 pub mod FaceLaws
 pub mod WideningLaws
 mod PruningLaws

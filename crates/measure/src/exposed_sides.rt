@@ -222,9 +222,9 @@ fn stays(direction: Direction, octant: u8) -> bool
     }
 }
 
-// Which cells of a leaf have a set cell next to them in this direction.
+/// Which cells of a leaf have a set cell next to them in this direction.
 #[inline(always)]
-fn next_bits(direction: Direction, bits: u64, beside: u64) -> u64
+pub fn next_bits(direction: Direction, bits: u64, beside: u64) -> u64
     ensures next { (s u : Shape) → bits ≡ bits_of s → beside ≡ bits_of u
         → BitsPassTest result (is_next_set direction 0 s u) }
     ensures bound { result < 2 ^ 64 }
