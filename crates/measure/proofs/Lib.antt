@@ -1,6 +1,7 @@
 mod LeafCounts
 mod LeafParts
 mod TallyLaws
+mod EightLeaves
 pub mod SubjectLaws
 mod AxisLaws
 mod BareLaws
