@@ -5,6 +5,7 @@ use Rattle.node_words.specs.shapes.Tree.{Tree, node_at}
 use Rattle.node_words.specs.shapes.Weights.{number_of_trees}
 use Rattle.node_words.specs.Gathering.{MayHold}
 use Rattle.node_words.specs.Held.{Gains, HoldsName, name_in}
+use Rattle.node_words.proofs.HeldLaws.{holds_reaches}
 use Rattle.tests_table.proofs.Overs.{first_row, first_held, over_held, over_name, over_number, over_went, may_be}
 use Rattle.tests_table.proofs.nodes.over_and_back.Goals as goal
 
@@ -15,6 +16,13 @@ node-requires-clause-held g c =
       row = first_row h.tree;
       are_held = first_held c.args.pass.now.view.held h.tree c.args.leaf h.is_held h.root;
     }
+
+pub children_at-names-requires-clause-reached : goal.children_at-names-requires-clause-reached
+children_at-names-requires-clause-reached g c =
+    let v = c.args.pass.now.view.held in let h = c.requires.held in let n = c.args.leaf in
+    holds_reaches _ c.in-Ok.node
+    (over_name v c.node.new.pass.view.held h.tree n c.in-Ok.node h.is_held h.root
+    (c.in-Ok.ensures.taken (first_row h.tree) (first_held v h.tree n h.is_held h.root)).joins)
 
 pub back-requires-clause-idle : goal.back-requires-clause-idle
 back-requires-clause-idle g c =
