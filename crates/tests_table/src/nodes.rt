@@ -55,7 +55,7 @@ struct Octants {
     bits: [u64; 8],
 }
 
-fn octants(table: &NodeTable, pass: &mut Pass, n: Name) -> Octants
+fn octants_told(table: &NodeTable, pass: &mut Pass, n: Name) -> Octants
     requires of { BelongsTo table.now pass.old }
     requires held { HoldsName pass.old.view.held n }
     requires level { n.level ≡ 1 }
@@ -85,7 +85,7 @@ fn told_and_back<R: Wait, L: Ledger>(
     ensures held { ForHeld pass.old.view.held node
         (λ t. Gains pass.new.view.held t pass.old.view.held) }
 {
-    let told = octants(table, pass, node.name());
+    let told = octants_told(table, pass, node.name());
     release::back(rt, table, pass, node, steps);
     told
 }
