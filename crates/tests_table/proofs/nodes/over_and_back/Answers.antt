@@ -28,6 +28,12 @@ told_and_back-told-requires-clause-held g c =
     over_name v c.node.new.pass.view.held h.tree n c.in-Ok.node h.is_held h.root
     (c.in-Ok.ensures.taken (first_row h.tree) (first_held v h.tree n h.is_held h.root)).joins
 
+pub told_and_back-told-requires-clause-level : goal.told_and_back-told-requires-clause-level
+told_and_back-told-requires-clause-level g c =
+    let h = c.requires.held in
+    (c.in-Ok.ensures.taken (first_row h.tree)
+    (first_held c.args.pass.now.view.held h.tree c.args.leaf h.is_held h.root)).level_is
+
 pub told_and_back-told-requires-clause-room : goal.told_and_back-told-requires-clause-room
 told_and_back-told-requires-clause-room g c =
     let v = c.args.pass.now.view.held in let h = c.requires.held in let n = c.args.leaf in
