@@ -55,6 +55,41 @@ struct Octants {
     bits: [u64; 8],
 }
 
+fn octants_told(table: &NodeTable, pass: &mut Pass, n: Name) -> Octants
+    requires of { BelongsTo table.now pass.old }
+    requires held { HoldsName pass.old.view.held n }
+    requires level { n.level ≡ 1 }
+    ensures { pass.new ≡ pass.old }
+{
+    let names = table.children_at(pass, n);
+    let bits = table.leaves_at(pass, n);
+    Octants { names, bits }
+}
+
+// What the node tells before it goes back.
+fn told_and_back<R: Wait, L: Ledger>(
+    rt: &R,
+    table: &NodeTable,
+    pass: &mut Pass,
+    node: Share,
+    steps: &mut Steps<L>,
+) -> Octants
+    requires of { BelongsTo table.now pass.old }
+    requires idle { pass.old.view.turn ≡ None }
+    requires held { HoldsName pass.old.view.held node }
+    requires level { node.level ≡ 1 }
+    requires room { number_of_trees pass.old.view.held ≤ 4000 }
+    ensures of { BelongsTo table.now pass.new }
+    ensures idle { pass.new.view.turn ≡ None }
+    ensures log { pass.new.view.log ≡ pass.old.view.log }
+    ensures held { ForHeld pass.old.view.held node
+        (λ t. Gains pass.new.view.held t pass.old.view.held) }
+{
+    let told = octants_told(table, pass, node.name());
+    release::back(rt, table, pass, node, steps);
+    told
+}
+
 // The leaf moves into a node over it, which goes back. Says what the node told, where it had room.
 fn over_and_back<R: Wait, L: Ledger>(
     rt: &R,
@@ -78,11 +113,8 @@ fn over_and_back<R: Wait, L: Ledger>(
     let children = [Some(leaf), None, None, None, None, None, None, None];
     match intern::node(rt, table, pass, 1, children, steps) {
         Ok(node) => {
-            let name = node.name();
-            let names = table.children_at(pass, name);
-            let bits = table.leaves_at(pass, name);
-            release::back(rt, table, pass, node, steps);
-            Some(Octants { names, bits })
+            let told = told_and_back(rt, table, pass, node, steps);
+            Some(told)
         }
         Err(refused) => {
             let NodeRefused { full: _, children } = refused;

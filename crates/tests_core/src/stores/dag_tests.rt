@@ -1,5 +1,5 @@
-use crate::stores::{Counted, fault_in, full_world_file, look_at, versions_of};
 use crate::stores::octants::{Octants, octants_of};
+use crate::stores::{Counted, fault_in, full_world_file, look_at, versions_of};
 use node_words::Name;
 use std::test::Fail;
 
@@ -36,13 +36,23 @@ fn what_a_file_says_of_its_versions(rt: HostRuntime) {
     assert_eq!(rt; look_at(rt.alloc(), b"VDAG", 0), Counted::NoFile);
 }
 
-const fn over_leaves(slot: u8) -> Option<Name> {
-    Some(Name {
-        level: 1,
-        bucket: 0,
-        slot,
-    })
-}
+const FIRST: Name = Name {
+    level: 1,
+    bucket: 0,
+    slot: 0,
+};
+
+const SECOND: Name = Name {
+    level: 1,
+    bucket: 0,
+    slot: 1,
+};
+
+const THIRD: Name = Name {
+    level: 1,
+    bucket: 0,
+    slot: 2,
+};
 
 /// Versions of `SIXTEEN`, and what their roots have in octants: version 0 the first node in octant
 /// 0 and in octant 2 the second one, which has both leaves; version 2 the third node in octant 0.
@@ -51,9 +61,9 @@ const OCTANTS: &[(u32, Octants)] = &[
         0,
         Octants {
             names: [
-                over_leaves(0),
+                Some(FIRST),
                 None,
-                over_leaves(1),
+                Some(SECOND),
                 None,
                 None,
                 None,
@@ -66,16 +76,7 @@ const OCTANTS: &[(u32, Octants)] = &[
     (
         2,
         Octants {
-            names: [
-                over_leaves(2),
-                None,
-                None,
-                None,
-                None,
-                None,
-                None,
-                None,
-            ],
+            names: [Some(THIRD), None, None, None, None, None, None, None],
             bits: [0; 8],
         },
     ),
@@ -84,7 +85,11 @@ const OCTANTS: &[(u32, Octants)] = &[
 #[test]
 fn octants_are_told_by_one_look(rt: HostRuntime) {
     for &(version, octants) in OCTANTS {
-        assert_eq!(rt; octants_of(rt.alloc(), SIXTEEN, version), Some(octants), "of {version}");
+        assert_eq!(rt;
+            octants_of(rt.alloc(), SIXTEEN, version),
+            Some(octants),
+            "of {version}"
+        );
     }
 }
 
