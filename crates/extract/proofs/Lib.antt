@@ -4,3 +4,4 @@ mod FillLaws
 mod SideLaws
 pub mod SavedLaws
 mod SurfaceLaws
+mod RowLaws

@@ -1,5 +1,5 @@
 ghost use Rattle.std.specs.Prelude.{◌≡◌, ℕ, ◌+◌, ◌*◌, ◌/◌, ◌<◌, ◌≤◌, length, slice_index, slice_set};
-ghost use Rattle.vw_cell.specs.Places.{block_side, IsInWorld};
+ghost use Rattle.vw_cell.specs.Places.{block_side};
 ghost use Rattle.vw_cell.specs.declared.directions.Direction.{Direction};
 ghost use Rattle.node_words.specs.descent.Answers.{AreRight};
 ghost use Rattle.node_words.specs.descent.Parts.{EndsBy};
@@ -8,13 +8,13 @@ ghost use Rattle.measure.specs.Faces.{passes_exposed};
 ghost use Rattle.measure.specs.Tallies.{IsWholeTally};
 ghost use Rattle.extract.specs.Layers.{IsSmallLayer, leaves_in};
 ghost use Rattle.extract.specs.Sides.{leaf_towards, words_towards};
-ghost use Rattle.extract.specs.BareLayers.{HoldsBare, HoldsSlab, CountsBlank, HaveAny, IsAny, IsBlank, leaf_at, leaf_sides};
+ghost use Rattle.extract.specs.BareLayers.{HoldsBare, HoldsSlab, CountsBlank, HaveAny, IsAny, IsBlank, leaf_at};
 
 use crate::leaves::{clear, leaves_of};
 use crate::side_walks::fill_sides;
 use crate::surrounded::Surrounded;
 use measure::{ExposedSides, WholeBlock};
-use node_words::{Answers, Blocks, Name, leaf_has};
+use node_words::{Answers, Blocks, Name};
 use vw_cell::{Block, Boxed, Cell};
 
 /// The leaves of a layer of a box, row by row, by the cells that are bare towards each direction.
@@ -218,24 +218,3 @@ pub(crate) fn any_of(leaf: BareLeaf) -> u64
     let z = leaf.low_z | leaf.high_z;
     x | y | z
 }
-
-/// The bare sides of a cell of the leaf.
-#[inline(always)]
-pub(crate) fn sides_at(leaf: BareLeaf, c: Cell) -> u8
-    requires { IsInWorld 4 c }
-    ensures { result ≡ leaf_sides leaf c }
-{
-    let low = one_if(leaf_has(leaf.low_x, c)) + 2 * one_if(leaf_has(leaf.high_x, c));
-    let middle = 4 * one_if(leaf_has(leaf.low_y, c)) + 8 * one_if(leaf_has(leaf.high_y, c));
-    let high = 16 * one_if(leaf_has(leaf.low_z, c)) + 32 * one_if(leaf_has(leaf.high_z, c));
-    low + middle + high
-}
-
-fn one_if(set: bool) -> u8
-    ensures value { result ≡ one_if set }
-    ensures bound { result ≤ 1 }
-{
-    if set { 1 } else { 0 }
-}
-
-ghost use Rattle.vw_cell.specs.Sums.{one_if};

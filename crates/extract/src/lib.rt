@@ -8,6 +8,7 @@
 #![tactic(auto)]
 
 mod bare_layers;
+mod bare_rows;
 mod boxes;
 mod files;
 mod leaves;
