@@ -12,6 +12,7 @@ mod bare_rows;
 mod boxes;
 mod files;
 mod leaves;
+mod nearby;
 mod rows;
 mod side_walks;
 mod surfaces;

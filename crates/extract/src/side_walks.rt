@@ -7,13 +7,14 @@ ghost use Rattle.measure.specs.Tallies.{IsWholeTally};
 ghost use Rattle.measure.specs.Widening.{ForCounted};
 ghost use Rattle.extract.specs.Layers.{IsLeafCorner, IsSmallLayer, leaf_corner};
 ghost use Rattle.extract.specs.Filling.{Fills, MeetsLayer};
-ghost use Rattle.extract.specs.Sides.{HasSides, sided, words_towards};
+ghost use Rattle.extract.specs.Sides.{AreNear, HasSides, sided, words_towards};
 
 use crate::bare_layers::BareLayer;
 use crate::leaves::{meets, number_at};
+use crate::nearby::Nearby;
 use crate::surrounded::Surrounded;
 use measure::{ExposedSides, WholeBlock};
-use node_words::{Answers, Blocks, octant_name};
+use node_words::{Answers, Blocks};
 use vw_cell::{Block, Boxed};
 
 /// Reads the leaves of a layer of the box that lie in a block, by the cells that are bare towards
@@ -89,17 +90,25 @@ fn fill_side_octants<B: Blocks>(
     ensures seen { B.seen store.new ≡ B.seen store.old }
     ensures rests { B.rests store.old store.new }
 {
-    for octant in 0..8u8 {
-        fill_side_octant(store, wholes, subject, place, octant, b, layer, words);
-    }
+    let near = Nearby::of(store, place.level, subject);
+    fill_side_octant(store, wholes, subject, &near, place, 0, b, layer, words);
+    fill_side_octant(store, wholes, subject, &near, place, 1, b, layer, words);
+    fill_side_octant(store, wholes, subject, &near, place, 2, b, layer, words);
+    fill_side_octant(store, wholes, subject, &near, place, 3, b, layer, words);
+    fill_side_octant(store, wholes, subject, &near, place, 4, b, layer, words);
+    fill_side_octant(store, wholes, subject, &near, place, 5, b, layer, words);
+    fill_side_octant(store, wholes, subject, &near, place, 6, b, layer, words);
+    fill_side_octant(store, wholes, subject, &near, place, 7, b, layer, words);
 }
 
 // The same of an octant, unless it has no leaf of the layer, or nothing stands in it.
+#[inline(always)]
 #[cycle(fill_sides)]
 fn fill_side_octant<B: Blocks>(
     store: &mut B,
     wholes: &mut Answers<WholeBlock<ExposedSides>>,
     subject: &Surrounded,
+    near: &Nearby,
     place: Block,
     octant: u8,
     b: Boxed,
@@ -108,6 +117,7 @@ fn fill_side_octant<B: Blocks>(
 )
     requires level { (1 ≤ place.level) × (place.level ≤ 10) }
     requires block { HasSides (B.seen store.old).held place.level subject.now }
+    requires near { AreNear (B.seen store.old).held place.level subject.now near.now }
     requires inside { LiesIn 4096 place }
     requires corner { IsLeafCorner place.at }
     requires octant { octant < 8 }
@@ -120,8 +130,9 @@ fn fill_side_octant<B: Blocks>(
         (λ m. IsInBlock (octant_of place octant) (leaf_corner b layer m)) b layer cells
         (words_towards words.old d) (words_towards words.new d)) }
     ensures block { HasSides (B.seen store.new).held place.level subject.now }
+    ensures near { AreNear (B.seen store.new).held place.level subject.now near.now }
     ensures wholes { AreRight
-        (IsWholeTally passes_exposed) (B.seen store.old).held wholes.new.places }
+        (IsWholeTally passes_exposed) (B.seen store.new).held wholes.new.places }
     ensures seen { B.seen store.new ≡ B.seen store.old }
     ensures rests { B.rests store.old store.new }
 {
@@ -129,10 +140,9 @@ fn fill_side_octant<B: Blocks>(
     if !meets(inner, b, layer) {
         return;
     }
-    let block = octant_name(store, place.level, subject.block, octant);
-    if block.is_none() {
+    let child = near.octant(octant);
+    if child.block.is_none() {
         return;
     }
-    let child = subject.octant(store, place.level, octant, block);
     fill_sides(store, wholes, &child, inner, b, layer, words);
 }
