@@ -123,6 +123,7 @@ impl Subject for ExposedSides {
         self.block.is_none()
     }
 
+    #[inline(always)]
     fn leaf<B: Blocks>(&self, store: &mut B) -> u64 {
         let bits = leaf_bits(store, self.block);
         let beside = leaf_bits(store, self.beside);
@@ -221,8 +222,9 @@ fn stays(direction: Direction, octant: u8) -> bool
     }
 }
 
-// Which cells of a leaf have a set cell next to them in this direction.
-fn next_bits(direction: Direction, bits: u64, beside: u64) -> u64
+/// Which cells of a leaf have a set cell next to them in this direction.
+#[inline(always)]
+pub fn next_bits(direction: Direction, bits: u64, beside: u64) -> u64
     ensures next { (s u : Shape) → bits ≡ bits_of s → beside ≡ bits_of u
         → BitsPassTest result (is_next_set direction 0 s u) }
     ensures bound { result < 2 ^ 64 }
