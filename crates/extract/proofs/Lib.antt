@@ -5,3 +5,4 @@ mod SideLaws
 pub mod SavedLaws
 mod SurfaceLaws
 mod RowLaws
+mod NearLaws

@@ -104,7 +104,7 @@ below_eight P a b c d e f g h (suc (suc (suc (suc (suc (suc (suc zero))))))) lt 
 below_eight P a b c d e f g h (suc (suc (suc (suc (suc (suc (suc (suc k)))))))) lt =
     absurd (omega arith)
 
-across_below : (d : Direction) (k : ℕ) → k < 8 → across d k < 8
+pub across_below : (d : Direction) (k : ℕ) → k < 8 → across d k < 8
 across_below LowX =
     below_eight (λ k. across LowX k < 8) (omega arith) (omega arith) (omega arith) (omega arith) (omega arith) (omega arith) (omega arith) (omega arith)
 across_below HighX =

@@ -91,10 +91,10 @@ fn name_across(
     }
 }
 
-// The octant that has the places next to an octant's further side, in its block or in the one
-// beside.
+/// The octant that has the places next to an octant's further side, in its block or in the one
+/// beside.
 #[inline(always)]
-fn across(direction: Direction, octant: u8) -> u8
+pub(crate) fn across(direction: Direction, octant: u8) -> u8
     requires { octant < 8 }
     ensures octant { result ≡ across direction octant }
     ensures below { result < 8 }
@@ -106,9 +106,9 @@ fn across(direction: Direction, octant: u8) -> u8
     }
 }
 
-// Whether that octant is one of the same block.
+/// Whether that octant is one of the same block.
 #[inline(always)]
-fn stays(direction: Direction, octant: u8) -> bool
+pub(crate) fn stays(direction: Direction, octant: u8) -> bool
     ensures { result ≡ stays direction octant }
 {
     match direction {

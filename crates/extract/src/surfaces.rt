@@ -1,21 +1,19 @@
 ghost use Rattle.std.specs.Prelude.{◌≡◌, ℕ, ◌+◌, ◌-◌, ◌*◌, ◌/◌, ◌<◌, ◌≤◌, ◌^◌, ◌++◌, take, length, Bool, OnOk, OnErr, option_copied, slice_index};
 ghost use Rattle.vw_cell.specs.declared.cells.Cell.{Cell};
 ghost use Rattle.vw_cell.specs.Places.{FitsAt, block_side};
-ghost use Rattle.node_words.specs.descent.Answers.{AreRight};
 ghost use Rattle.node_words.specs.descent.Parts.{EndsBy};
 ghost use Rattle.node_words.specs.descent.Roots.{HasBlock, HoldsRoot, ForBlock, ForWorld, cells_of};
-ghost use Rattle.measure.specs.Faces.{passes_exposed};
-ghost use Rattle.measure.specs.Tallies.{IsWholeTally};
 ghost use Rattle.extract.specs.Listing.{voxels_joined};
 ghost use Rattle.extract.specs.Layers.{IsRow, IsSmallLayer, HasRoom, AppendsVoxels, leaves_along, leaves_in};
+ghost use Rattle.extract.specs.Sides.{AreFound};
 ghost use Rattle.extract.specs.Surface.{bare_sides_of, layer_of_sides, row_of_sides, surface_of_box, voxel_of_sides};
 ghost use Rattle.extract.specs.BareLayers.{HoldsSlab, IsAny, IsRowUnset, leaf_at, part_of_row, run_of_sides};
 
+use crate::alike::Found;
 use crate::bare_layers::{BareLeaf, Slab, gather_slab, leaf_of};
 use crate::bare_rows::{row_sides, sides_in};
 use crate::rows::{row_start, run_length};
-use measure::{ExposedSides, WholeBlock};
-use node_words::{Answers, Blocks, Name, Share, name_of};
+use node_words::{Blocks, Name, Share, name_of};
 use vox_read::Voxel;
 use vw_cell::{Boxed, Cell, Memory, Side};
 
@@ -67,12 +65,12 @@ fn slabs_in<B: Blocks>(
     ensures seen { B.seen store.new ≡ B.seen store.old }
     ensures rests { B.rests store.old store.new }
 {
-    let mut wholes = Answers::new();
+    let mut found = Found::new();
     let mut slab = Slab::new();
     let mut z = 0;
     while z < b.size.z {
         let n = run_length(b.at.z + z, b.size.z - z);
-        if !slab_in(store, &mut wholes, level, block, b, z, n, &mut slab, into) {
+        if !slab_in(store, &mut found, level, block, b, z, n, &mut slab, into) {
             return false;
         }
         z += n;
@@ -84,7 +82,7 @@ fn slabs_in<B: Blocks>(
 // nothing is appended.
 fn slab_in<B: Blocks>(
     store: &mut B,
-    wholes: &mut Answers<WholeBlock<ExposedSides>>,
+    found: &mut Found,
     level: u8,
     block: Option<Name>,
     b: Boxed,
@@ -100,15 +98,13 @@ fn slab_in<B: Blocks>(
     requires some { 1 ≤ n }
     requires z { z + n ≤ b.size.z }
     requires layer { (k : ℕ) → k < n → (b.at.z + (z + k)) / 4 ≡ (b.at.z + z) / 4 }
-    requires wholes { AreRight
-        (IsWholeTally passes_exposed) (B.seen store.old).held wholes.old.places }
+    requires found { AreFound (B.seen store.old).held found.old }
     ensures voxels { IsTrue result → ForBlock (B.seen store.old).held level block
         (λ s. into.new.items ≡ into.old.items ++ voxels_joined n
         (λ k. layer_of_sides (bare_sides_of (block_side level) (cells_of level s)) b (z + k))) }
     ensures none { IsFalse result → into.new.items ≡ into.old.items }
     ensures block { HasBlock (B.seen store.new).held level block }
-    ensures wholes { AreRight
-        (IsWholeTally passes_exposed) (B.seen store.old).held wholes.new.places }
+    ensures found { AreFound (B.seen store.old).held found.new }
     ensures seen { B.seen store.new ≡ B.seen store.old }
     ensures rests { B.rests store.old store.new }
 {
@@ -116,7 +112,7 @@ fn slab_in<B: Blocks>(
     if into.reserve(most).is_err() {
         return false;
     }
-    gather_slab(store, wholes, level, block, b, z, slab);
+    gather_slab(store, found, level, block, b, z, slab);
     layers_in_room(slab, b, z, n, into);
     true
 }

@@ -5,8 +5,9 @@ ghost use Rattle.node_words.specs.descent.Answers.{AreRight};
 ghost use Rattle.measure.specs.Faces.{passes_exposed};
 ghost use Rattle.measure.specs.Leaves.{BitsPassTest};
 ghost use Rattle.measure.specs.Tallies.{IsWholeTally, PassesNone};
-ghost use Rattle.extract.specs.Sides.{HasSides, beside_of, leaf_towards, sided};
+ghost use Rattle.extract.specs.Sides.{AreFound, HasSides, beside_of, leaf_towards, sided};
 
+use crate::alike::{Alike, Found, number_of};
 use crate::bare_layers::BareLeaf;
 use measure::{ExposedSides, Subject, WholeBlock, passes_none};
 use node_words::{Answers, Blocks, Name, same_names};
@@ -107,9 +108,55 @@ impl Surrounded {
         towards.leaf(store)
     }
 
-    /// Whether no cell of the block is bare in any direction. It may miss that none is.
+    /// Whether no cell of the block is bare in any direction, which is asked only where the same
+    /// stands beside it everywhere. It may miss that none is.
     #[inline(always)]
-    pub(crate) fn is_hidden<B: Blocks>(
+    pub(crate) fn is_hidden<B: Blocks>(&self, store: &mut B, found: &mut Found, level: u8) -> bool
+        requires level { (1 ≤ level) × (level ≤ 10) }
+        requires block { HasSides (B.seen store.old).held level self.now }
+        requires found { AreFound (B.seen store.old).held found.old }
+        ensures none { IsTrue result → (d : Direction) (test : Cell → Bool)
+            → passes_exposed (B.seen store.old).held level (sided self.now d) test
+            → PassesNone level test }
+        ensures block { HasSides (B.seen store.new).held level self.now }
+        ensures found { AreFound (B.seen store.old).held found.new }
+        ensures seen { B.seen store.new ≡ B.seen store.old }
+        ensures rests { B.rests store.old store.new }
+    {
+        if !self.is_even() {
+            return false;
+        }
+        self.is_hidden_alike(store, found, level)
+    }
+
+    // The same, where the same stands beside it everywhere.
+    fn is_hidden_alike<B: Blocks>(&self, store: &mut B, found: &mut Found, level: u8) -> bool
+        requires level { (1 ≤ level) × (level ≤ 10) }
+        requires even { (d : Direction) → beside_of self.now d ≡ self.now.block }
+        requires block { HasSides (B.seen store.old).held level self.now }
+        requires found { AreFound (B.seen store.old).held found.old }
+        ensures none { IsTrue result → (d : Direction) (test : Cell → Bool)
+            → passes_exposed (B.seen store.old).held level (sided self.now d) test
+            → PassesNone level test }
+        ensures block { HasSides (B.seen store.new).held level self.now }
+        ensures found { AreFound (B.seen store.old).held found.new }
+        ensures seen { B.seen store.new ≡ B.seen store.old }
+        ensures rests { B.rests store.old store.new }
+    {
+        let query = Alike {
+            block: self.block,
+            level,
+        };
+        if let Some(number) = found.alike.find(&query) {
+            return number > 0;
+        }
+        let hidden = self.hides_all(store, &mut found.wholes, level);
+        found.alike.keep(query, number_of(hidden));
+        hidden
+    }
+
+    // Whether no cell is bare in any direction. It may miss that none is.
+    fn hides_all<B: Blocks>(
         &self,
         store: &mut B,
         wholes: &mut Answers<WholeBlock<ExposedSides>>,
@@ -128,9 +175,6 @@ impl Surrounded {
         ensures seen { B.seen store.new ≡ B.seen store.old }
         ensures rests { B.rests store.old store.new }
     {
-        if !self.is_even() {
-            return false;
-        }
         if !self.hides(store, wholes, Direction::LowX, level) {
             return false;
         }
@@ -152,10 +196,11 @@ impl Surrounded {
         true
     }
 
-    // Whether the same stands in the block and beside it. No answer depends on it: where it is
-    // false, `hides` would say so of one direction.
+    // Whether the same stands in the block and beside it everywhere.
     #[inline(always)]
-    fn is_even(&self) -> bool {
+    fn is_even(&self) -> bool
+        ensures { IsTrue result → (d : Direction) → beside_of self.now d ≡ self.now.block }
+    {
         same_names(self.block, self.low_x)
             && same_names(self.block, self.high_x)
             && same_names(self.block, self.low_y)

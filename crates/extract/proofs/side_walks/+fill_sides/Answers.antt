@@ -4,11 +4,11 @@ use Rattle.vw_cell.specs.declared.blocks.Block.{Block}
 use Rattle.measure.specs.Faces.{passes_exposed}
 use Rattle.node_words.proofs.OfDescent.LookLaws.{is_nothing}
 use Rattle.measure.proofs.FaceLaws.{nothing_bare}
-use Rattle.measure.proofs.WholeLaws.{whole_right_before}
 use Rattle.measure.proofs.WideningLaws.{child_level, still_counts, octant_lies}
 use Rattle.extract.specs.Filling.{Fills}
 use Rattle.extract.specs.Sides.{beside_of, leaf_towards, sided, words_towards}
 use Rattle.extract.proofs.FillLaws.{LiesAmong, nothing_fills, leaf_fills, misses_fills, octant_fills, octant_corner, not_both}
+use Rattle.extract.proofs.NearLaws.{found_before}
 use Rattle.extract.proofs.SideLaws.{all_filled, blank_octant, first_filled, near_name, near_octant, near_still, next_filled, octant_sides, put_fills}
 use Rattle.extract.proofs.side_walks.+fill_sides.Goals as goal
 
@@ -34,6 +34,14 @@ pub fill_sides-returns-then-is_hidden-clause-fills :
 fill_sides-returns-then-is_hidden-clause-fills g t c d =
     nothing_fills passes_exposed (g.B.Blocks.seen c.args.store.now).held (sided c.args.subject.now d) c.args.place c.args.b c.args.layer (words_towards c.args.words.now d)
     (c.if-is_hidden.ensures.none refl d) c.requires.corner
+
+pub fill_sides-returns-then-place-eq1-clause-fills :
+    goal.fill_sides-returns-then-place-eq1-clause-fills
+fill_sides-returns-then-place-eq1-clause-fills g t c d cells test p shows =
+    c.fill_side_leaves.ensures.fills d cells test
+    (still_counts passes_exposed (g.B.Blocks.seen c.args.store.now) (g.B.Blocks.seen c.is_hidden.new.store) c.args.place.level
+    (sided c.args.subject.now d) test c.is_hidden.ensures.seen p)
+    shows
 
 pub fill_sides-returns-clause-fills : goal.fill_sides-returns-clause-fills
 fill_sides-returns-clause-fills g t c d cells test p shows =
@@ -85,12 +93,12 @@ fill_side_octants-returns-clause-fills g t c =
     c.fill_side_octant-8.ensures.fills in
     all_filled a.held s place b layer c.args.words.now c.fill_side_octant-8.new.words c.requires.level.0 f8
 
-pub fill_side_octants-returns-clause-wholes : goal.fill_side_octants-returns-clause-wholes
-fill_side_octants-returns-clause-wholes g t c =
-    whole_right_before passes_exposed (g.B.Blocks.seen c.args.store.now)
+pub fill_side_octants-returns-clause-found : goal.fill_side_octants-returns-clause-found
+fill_side_octants-returns-clause-found g t c =
+    found_before (g.B.Blocks.seen c.args.store.now)
     (g.B.Blocks.seen c.fill_side_octant-8.new.store) _
     (c.fill_side_octant-8.ensures.seen ∙ c.fill_side_octant-7.ensures.seen ∙ c.fill_side_octant-6.ensures.seen ∙ c.fill_side_octant-5.ensures.seen ∙ c.fill_side_octant-4.ensures.seen ∙ c.fill_side_octant-3.ensures.seen ∙ c.fill_side_octant-2.ensures.seen ∙ c.fill_side_octant.ensures.seen ∙ c.of-near.ensures.seen)
-    c.fill_side_octant-8.ensures.wholes
+    c.fill_side_octant-8.ensures.found
 
 pub fill_side_octants-returns-clause-rests : goal.fill_side_octants-returns-clause-rests
 fill_side_octants-returns-clause-rests g t c =
@@ -147,7 +155,7 @@ fill_side_octant-fill_sides-requires g t c κs within =
                   c.requires.b,
                   (
                     c.requires.layer,
-                    (c.meets.ensures.0 c.if-not-meets.false, c.requires.wholes),
+                    (c.meets.ensures.0 c.if-not-meets.false, c.requires.found),
                   ),
                 ),
               ),
@@ -176,8 +184,8 @@ fill_side_octant-returns-clause-near g t c =
     c.args.place.level c.args.subject.now c.args.near.now c.fill_sides.ensures.seen
     c.requires.near
 
-pub fill_side_octant-returns-clause-wholes : goal.fill_side_octant-returns-clause-wholes
-fill_side_octant-returns-clause-wholes g t c =
-    whole_right_before passes_exposed (g.B.Blocks.seen c.fill_sides.new.store)
+pub fill_side_octant-returns-clause-found : goal.fill_side_octant-returns-clause-found
+fill_side_octant-returns-clause-found g t c =
+    found_before (g.B.Blocks.seen c.fill_sides.new.store)
     (g.B.Blocks.seen c.args.store.now) _ (sym c.fill_sides.ensures.seen)
-    c.fill_sides.ensures.wholes
+    c.fill_sides.ensures.found
