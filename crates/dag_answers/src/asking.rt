@@ -67,9 +67,9 @@ pub fn look(
     }
 }
 
-// What the question asks of a version, where the file has it.
+/// What the question asks of a version, where the file has it.
 #[tactic(auto, using(crate::proofs::LookLaws::version_told))]
-fn ask_version(view: &mut DagView<'_>, version: u32, question: Question) -> Option<Answer>
+pub fn ask_version(view: &mut DagView<'_>, version: u32, question: Question) -> Option<Answer>
     requires fits { QuestionFits (2 ^ view.old.side) question }
     ensures same { view.new ≡ view.old }
     ensures tells { MatchOption result

@@ -14,7 +14,7 @@ mod making;
 mod placing;
 mod questions;
 
-pub use asking::{LookRefused, look};
+pub use asking::{LookRefused, ask_version, look};
 pub use laws::looks_are_judged;
 pub use legality::first_illegal;
 pub use making::{HistoryRefused, file_of_history, world_of_history};

@@ -10,6 +10,7 @@ mod contents;
 mod entries;
 mod faults;
 mod fields;
+mod files;
 mod headers;
 mod keys;
 mod laws;
@@ -22,6 +23,7 @@ mod views;
 mod writing;
 
 pub use faults::DagFault;
+pub use files::DagFile;
 pub use laws::{
     a_file_is_right_or_has_a_fault, a_list_has_one_file, faults_are_of_broken_files,
     files_of_one_list_are_one, held_roots_show_canonical_shapes, right_files_are_of_their_lists,
