@@ -17,19 +17,3 @@ decreases-fill_side_octants g l = 3 * l.place.level + 1
 
 abbrev pub decreases-fill_side_octant : goal.decreases-fill_side_octant
 decreases-fill_side_octant g l = 3 * l.place.level
-
-abbrev pub invariant-fill_side_octants-loop-octant : goal.invariant-fill_side_octants-loop-octant
-invariant-fill_side_octants-loop-octant g l =
-    let seen = g.B.Blocks.seen in
-    record {
-      fills : (d : Direction) → ForCounted passes_exposed (seen l.fn.store).held
-          (sided l.fn.subject d) l.fn.place
-          (λ cells. Fills
-          (λ m. IsInFirst l.fn.place l.octant
-          (leaf_corner l.fn.b l.fn.layer m)) l.fn.b l.fn.layer cells
-          (words_towards l.fn.words d) (words_towards l.words d));
-      block : HasSides (seen l.store).held l.fn.place.level l.fn.subject;
-      wholes : AreRight (IsWholeTally passes_exposed) (seen l.fn.store).held l.wholes.places;
-      same : seen l.store ≡ seen l.fn.store;
-      rests : g.B.Blocks.rests l.fn.store l.store;
-    }

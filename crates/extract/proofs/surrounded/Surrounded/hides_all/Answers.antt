@@ -6,7 +6,7 @@ use Rattle.measure.specs.Tallies.{PassesNone}
 use Rattle.measure.proofs.WideningLaws.{still_counts}
 use Rattle.extract.specs.Sides.{sided}
 use Rattle.extract.proofs.SideLaws.{each_way}
-use Rattle.extract.proofs.surrounded.Surrounded.is_hidden.Goals as goal
+use Rattle.extract.proofs.surrounded.Surrounded.hides_all.Goals as goal
 
 pub returns-clause-none : goal.returns-clause-none
 returns-clause-none g c all =
