@@ -12,9 +12,8 @@ ghost use Rattle.extract.specs.Sides.{AreNearLeaves, HasSides, HaveBits, leaf_to
 ghost use Rattle.extract.specs.declared.surrounded.Surrounded.{Surrounded};
 
 use crate::bare_layers::BareLeaf;
-use crate::nearby::{across, stays};
 use crate::surrounded::Surrounded;
-use measure::next_bits;
+use measure::{across, next_bits, stays};
 use node_words::{Blocks, octant_bits};
 use vw_cell::Direction;
 

@@ -1,10 +1,11 @@
 ghost use Rattle.std.specs.Prelude.{◌≡◌, ◌<◌, ◌≤◌, if◌then◌else◌};
 ghost use Rattle.vw_cell.specs.declared.directions.Direction.{Direction};
 ghost use Rattle.node_words.specs.Held.{name_in};
-ghost use Rattle.measure.specs.Exposed.{across, other_half, stays};
+ghost use Rattle.measure.specs.Exposed.{across, stays};
 ghost use Rattle.extract.specs.Sides.{AreNear, HasSides, beside_of, names_towards};
 
 use crate::surrounded::Surrounded;
+use measure::{across, stays};
 use node_words::{Blocks, Name, octant_names};
 use vw_cell::Direction;
 
@@ -88,52 +89,5 @@ fn name_across(
         block[i]
     } else {
         beside[i]
-    }
-}
-
-/// The octant that has the places next to an octant's further side, in its block or in the one
-/// beside.
-#[inline(always)]
-pub(crate) fn across(direction: Direction, octant: u8) -> u8
-    requires { octant < 8 }
-    ensures octant { result ≡ across direction octant }
-    ensures below { result < 8 }
-{
-    match direction {
-        Direction::LowX | Direction::HighX => other_half(octant % 2, 1, octant),
-        Direction::LowY | Direction::HighY => other_half(octant / 2 % 2, 2, octant),
-        Direction::LowZ | Direction::HighZ => other_half(octant / 4 % 2, 4, octant),
-    }
-}
-
-/// Whether that octant is one of the same block.
-#[inline(always)]
-pub(crate) fn stays(direction: Direction, octant: u8) -> bool
-    ensures { result ≡ stays direction octant }
-{
-    match direction {
-        Direction::LowX => octant % 2 != 0,
-        Direction::HighX => octant % 2 == 0,
-        Direction::LowY => octant / 2 % 2 != 0,
-        Direction::HighY => octant / 2 % 2 == 0,
-        Direction::LowZ => octant / 4 % 2 != 0,
-        Direction::HighZ => octant / 4 % 2 == 0,
-    }
-}
-
-// The octant in the other half, for an octant of this half, where the halves' octants are `step`
-// apart.
-#[inline(always)]
-fn other_half(half: u8, step: u8, octant: u8) -> u8
-    requires half { half < 2 }
-    requires step { step ≤ 4 }
-    requires octant { octant < 8 }
-    requires within { half ≡ 1 → step ≤ octant }
-    ensures { result ≡ other_half half step octant }
-{
-    if half == 0 {
-        octant + step
-    } else {
-        octant - step
     }
 }
