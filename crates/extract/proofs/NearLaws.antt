@@ -20,7 +20,7 @@ use Rattle.measure.specs.Tallies.{Counting, PassesNone, in_octant}
 use Rattle.measure.specs.Widening.{ForCounted}
 use Rattle.measure.proofs.BareLaws.{bare_in}
 use Rattle.measure.proofs.BareLeaves.{bare_tells}
-use Rattle.measure.proofs.WideningLaws.{child_level, octant_passed}
+use Rattle.measure.proofs.WideningLaws.{octant_passed}
 use Rattle.extract.specs.Filling.{Fills}
 use Rattle.extract.specs.Layers.{IsSmallLayer, leaf_corner}
 use Rattle.extract.specs.Sides.{AreFound, AreNearLeaves, HaveBits, beside_of, hides_alike, leaves_towards, sided}
