@@ -1,4 +1,4 @@
-use measure::next_bits;
+use measure::{across, next_bits, stays};
 use std::test::Fail;
 use vw_cell::Direction;
 
@@ -23,6 +23,30 @@ fn cells_next_to_those_of_two_leaves_are_told(rt: HostRuntime) -> Result<(), Fai
             next_bits(direction, bits, beside),
             next,
             "{bits:x} beside {beside:x}"
+        );
+    }
+    Ok(())
+}
+
+// A direction, an octant, the octant beside it there, and whether that is one of the same block.
+const OCTANTS: [(Direction, u8, u8, bool); 7] = [
+    (Direction::LowX, 0, 1, false),
+    (Direction::HighX, 0, 1, true),
+    (Direction::LowY, 6, 4, true),
+    (Direction::HighY, 5, 7, true),
+    (Direction::LowZ, 5, 1, true),
+    (Direction::HighZ, 5, 1, false),
+    (Direction::HighX, 7, 6, false),
+];
+
+#[test]
+fn an_octant_lies_beside_one_in_each_direction(rt: HostRuntime) -> Result<(), Fail> {
+    for (direction, octant, beside, same) in OCTANTS {
+        assert_eq!(rt; across(direction, octant), beside, "beside octant {octant}");
+        assert_eq!(rt;
+            stays(direction, octant),
+            same,
+            "whether it is in the block of {octant}"
         );
     }
     Ok(())
