@@ -299,8 +299,27 @@ class Journal:
                 f"({said['open']} ms of the processor in the call, the last), peak {found['opened'].peak / 1e6:.0f} MB{differs}"]
 
 
+@dataclass(frozen=True)
+class Surface:
+    """The cells of a box that can be seen, listed: three worlds, beside `faces` of the same box; or a call's instructions."""
+
+    def run(self, name: str, rounds: int, is_counted: bool) -> list[str]:
+        folder, program = over_library("surface")
+        return [f"{name}: {self.told(folder, program, kind, rounds, is_counted)}" for kind in ("full", "ball", "ground")]
+
+    def told(self, folder: Path, program: Path, kind: str, rounds: int, is_counted: bool) -> str:
+        if is_counted:
+            once, often = (timed.counted([program, kind, calls], folder)[0] for calls in ("1", "5"))
+            return f"{kind}, {(often - once) / 4e6:.1f} million instructions for a call of each"
+        found = timed.in_turn(rounds, {kind: lambda: timed.timed([program, kind, "20"], folder)})
+        words = found[kind].printed.split()
+        said = dict(zip(words[::2], map(float, words[1::2])))
+        aim = 1.5 * said["faces"] + 4e-6 * said["listed"]
+        return f"{kind}, {said['listed']:.0f} cells: {said['surface']:.2f} ms, `faces` {said['faces']:.2f} ms, aim {aim:.1f}"
+
+
 STORES = " ".join(reversed(below("edit_ops edit_copy edit_stamp measure ray_walk extract script one_store".split())))
-ROWS: dict[str, Part | Library | Journal] = {
+ROWS: dict[str, Part | Library | Journal | Surface] = {
     "kernels": Part("node_words vw_cell", "", peer=None),
     "one_store": Part("one_store core_laws node_words vw_cell", "kind time sum", scale=0.1, aim=1.3, more=begun, peaks={
         "a store of side 4,096 by the usual plan": ["usual"],
@@ -321,4 +340,5 @@ ROWS: dict[str, Part | Library | Journal] = {
                       source="worlds", shows=lambda kind: kind == "edit"),
     "library": Library(),
     "journal": Journal(),
+    "surface": Surface(),
 }
