@@ -1,12 +1,12 @@
-"""The world of the library."""
+"""The world of the library, and a file of its versions."""
 
 from __future__ import annotations
 
 import ctypes as c
 import threading
-from typing import Any, Callable, NamedTuple, Optional, Sequence, Union
+from typing import Any, Callable, NamedTuple, Optional, Sequence, TypeVar, Union
 
-from .errors import BadPlan, BadScene, TooSmall, refusal
+from .errors import BadDag, BadPlan, BadScene, TooSmall, refusal
 from .library import CBox, CHandle, CPlace, CPlan, CScene, Library, load
 
 try:
@@ -99,7 +99,85 @@ def _rows(data: "bytearray | bytes", axes: Sequence[int]) -> Any:
     return memoryview(data).cast("B", list(axes)) if data else memoryview(data)
 
 
-class World:
+_H = TypeVar("_H", bound="_Held")
+
+
+class _Held:
+    """What a world and a file of versions have in common: they are closed, and asked."""
+
+    _kind = ""
+
+    def _start(self, library: Optional[Library]) -> None:
+        self._library = library or load()
+        self._handle = CHandle()
+        self._turn = threading.Lock()
+        self._rooms: list[bytearray] = []
+
+    def _call(self, name: str, *arguments: Any, line: Optional[c.c_uint32] = None) -> None:
+        function = self._library.call(self._kind + name)
+        with self._turn:
+            status = function(c.byref(self._handle), *arguments)
+        if status:
+            told = line.value if line is not None and status in (18, 19) else None
+            raise refusal(status, told)
+
+    def __enter__(self: _H) -> _H:
+        return self
+
+    def __exit__(self, *_: object) -> None:
+        self.close()
+
+    def __del__(self) -> None:
+        if getattr(self, "_handle", None) is not None and self._handle.is_open:
+            self._library.call(self._kind + "close")(c.byref(self._handle))
+
+    def close(self) -> None:
+        """Gives the memory back. What is closed stays closed."""
+        if self._handle.is_open:
+            self._call("close")
+
+    # ---- questions: of a version, and they change nothing
+
+    @property
+    def newest(self) -> int:
+        """The number of the newest version."""
+        version = c.c_uint32()
+        self._call("newest", c.byref(version))
+        return version.value
+
+    def get(self, version: int, at: Sequence[int]) -> bool:
+        """Whether a cell is set."""
+        is_set = c.c_bool()
+        self._call("get", _number(version), _place(at), c.byref(is_set))
+        return is_set.value
+
+    def count(self, version: int, box: Sequence[int]) -> int:
+        """How many cells of a box are set."""
+        cells = c.c_uint64()
+        self._call("count", _number(version), _box(box), c.byref(cells))
+        return cells.value
+
+    def faces(self, version: int, box: Sequence[int]) -> int:
+        """How many sides of a box's set cells border on an unset cell or on the outside of the world."""
+        faces = c.c_uint64()
+        self._call("faces", _number(version), _box(box), c.byref(faces))
+        return faces.value
+
+    def bounds(self, version: int) -> Optional[Box]:
+        """The least box of all set cells, or None where there are none."""
+        some, least = c.c_bool(), CBox()
+        self._call("bounds", _number(version), c.byref(some), c.byref(least))
+        return _six(least) if some.value else None
+
+    def ray(self, version: int, start: Sequence[int], steps: Sequence[int]) -> Optional[Place]:
+        """The first set cell on the ray from the centre of a cell, or None."""
+        dx, dy, dz = (_step(step) for step in steps)
+        some, hit = c.c_bool(), CPlace()
+        self._call("ray", _number(version), _place(start), dx, dy, dz, c.byref(some), c.byref(hit))
+        return Place(hit.x, hit.y, hit.z) if some.value else None
+
+
+class World(_Held):
     """A voxel world with versions. Version 0 is empty, and each change that is accepted makes the next one.
 
     `side` is 4, 8, 16, .. 4,096, and with `tints` at most 1,024; `cap` the slots of a bucket of the store, 0 for the
@@ -115,12 +193,6 @@ class World:
             self._call("open_as", _plan(side, cap, keep, tints), file, size)
         else:
             self._call("open_with", _number(side), _number(cap), file, size)
-
-    def _start(self, library: Optional[Library]) -> None:
-        self._library = library or load()
-        self._handle = CHandle()
-        self._turn = threading.Lock()
-        self._rooms: list[bytearray] = []
 
     @classmethod
     def open_journal(cls, journal: Bytes, *, models: Bytes = b"", cap: int = 0, keep: int = 0,
@@ -148,38 +220,6 @@ class World:
         except BadScene:
             raise BadScene(scene.kind, scene.at) from None
         return Scene(world, scene.placements)
-
-    @classmethod
-    def open_dag(cls, file: Bytes, *, library: Optional[Library] = None) -> "World":
-        """The versions of a DAG file, as a world that is only asked."""
-        world = cls.__new__(cls)
-        world._start(library)
-        data, size = _given(file)
-        world._call("open_dag", data, size)
-        return world
-
-    def _call(self, name: str, *arguments: Any, line: Optional[c.c_uint32] = None) -> None:
-        function = self._library.call(name)
-        with self._turn:
-            status = function(c.byref(self._handle), *arguments)
-        if status:
-            told = line.value if line is not None and status in (18, 19) else None
-            raise refusal(status, told)
-
-    def __enter__(self) -> "World":
-        return self
-
-    def __exit__(self, *_: object) -> None:
-        self.close()
-
-    def __del__(self) -> None:
-        if getattr(self, "_handle", None) is not None and self._handle.is_open:
-            self._library.call("close")(c.byref(self._handle))
-
-    def close(self) -> None:
-        """Gives the world's memory back. A world that is closed stays closed."""
-        if self._handle.is_open:
-            self._call("close")
 
     @property
     def about(self) -> Plan:
@@ -241,14 +281,7 @@ class World:
         """Gives a version up: it can't be asked or gone back to."""
         self._call("forget", _number(version))
 
-    # ---- questions: of a version, and they change nothing
-
-    @property
-    def newest(self) -> int:
-        """The number of the newest version."""
-        version = c.c_uint32()
-        self._call("newest", c.byref(version))
-        return version.value
+    # ---- more questions
 
     def model_size(self, model: int) -> Place:
         """The size of a model, counted from 0 in its file."""
@@ -256,42 +289,11 @@ class World:
         self._call("model_size", _number(model), c.byref(size))
         return Place(size.x, size.y, size.z)
 
-    def get(self, version: int, at: Sequence[int]) -> bool:
-        """Whether a cell is set."""
-        is_set = c.c_bool()
-        self._call("get", _number(version), _place(at), c.byref(is_set))
-        return is_set.value
-
     def colour(self, version: int, at: Sequence[int]) -> int:
         """The tint of a cell, 0 where it is clear."""
         tint = c.c_uint8()
         self._call("colour", _number(version), _place(at), c.byref(tint))
         return tint.value
-
-    def count(self, version: int, box: Sequence[int]) -> int:
-        """How many cells of a box are set."""
-        cells = c.c_uint64()
-        self._call("count", _number(version), _box(box), c.byref(cells))
-        return cells.value
-
-    def faces(self, version: int, box: Sequence[int]) -> int:
-        """How many sides of a box's set cells border on an unset cell or on the outside of the world."""
-        faces = c.c_uint64()
-        self._call("faces", _number(version), _box(box), c.byref(faces))
-        return faces.value
-
-    def bounds(self, version: int) -> Optional[Box]:
-        """The least box of all set cells, or None where there are none."""
-        some, least = c.c_bool(), CBox()
-        self._call("bounds", _number(version), c.byref(some), c.byref(least))
-        return _six(least) if some.value else None
-
-    def ray(self, version: int, start: Sequence[int], steps: Sequence[int]) -> Optional[Place]:
-        """The first set cell on the ray from the centre of a cell, or None."""
-        dx, dy, dz = (_step(step) for step in steps)
-        some, hit = c.c_bool(), CPlace()
-        self._call("ray", _number(version), _place(start), dx, dy, dz, c.byref(some), c.byref(hit))
-        return Place(hit.x, hit.y, hit.z) if some.value else None
 
     def same(self, a: int, b: int) -> bool:
         """Whether two versions have the same cells, and in a world with tints the same tints."""
@@ -367,6 +369,30 @@ class World:
         number, part, place, cells = _number(version), _box(box), _place(start), c.c_uint64()
         file = self._bytes(lambda out, size, needed: self._call("flood", number, part, place, c.byref(cells), out, size, needed))
         return cells.value, file
+
+
+class Versions(_Held):
+    """A file of versions, which is only asked: each version has the number that it had in its world, and those that were
+    forgotten aren't there. Of a world with tints it has the store, of four times the side. Raises BadDag with the place
+    of the first fault. Use it in a `with`, or call `close`."""
+
+    _kind = "versions_"
+
+    def __init__(self, file: Bytes, *, library: Optional[Library] = None) -> None:
+        self._start(library)
+        data, size = _given(file)
+        at = c.c_uint64()
+        try:
+            self._call("open", data, size, c.byref(at))
+        except BadDag:
+            raise BadDag(at.value) from None
+
+    @property
+    def side(self) -> int:
+        """The side of the file's worlds."""
+        side = c.c_uint32()
+        self._call("side", c.byref(side))
+        return side.value
 
 
 def _plan(side: int, cap: int, keep: int, tints: bool) -> Any:
