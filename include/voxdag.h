@@ -165,6 +165,14 @@ voxdag_status voxdag_c_versions_faces(voxdag_versions *v, uint32_t version, cons
 voxdag_status voxdag_c_versions_bounds(voxdag_versions *v, uint32_t version, bool *some, voxdag_box *least);
 voxdag_status voxdag_c_versions_ray(voxdag_versions *v, uint32_t version, const voxdag_place *from, int16_t dx, int16_t dy,
                                     int16_t dz, bool *some, voxdag_place *hit);
+voxdag_status voxdag_c_versions_same(voxdag_versions *v, uint32_t a, uint32_t b, bool *same);
+voxdag_status voxdag_c_versions_changes(voxdag_versions *v, uint32_t a, uint32_t b, bool *some, voxdag_box *least);
+voxdag_status voxdag_c_versions_save(voxdag_versions *v, uint32_t version, const voxdag_box *part, uint8_t *out, size_t size,
+                                     size_t *needed);
+voxdag_status voxdag_c_versions_surface(voxdag_versions *v, uint32_t version, const voxdag_box *part, voxdag_shown *out,
+                                        size_t room, size_t *needed);
+voxdag_status voxdag_c_versions_flood(voxdag_versions *v, uint32_t version, const voxdag_box *part, const voxdag_place *from,
+                                      uint64_t *cells, uint8_t *out, size_t size, size_t *needed);
 
 /* ---- Opening and closing */
 
@@ -575,7 +583,7 @@ static inline voxdag_status voxdag_versions_newest(voxdag_versions *v, uint32_t 
 }
 
 /* These answer as the questions of a world do: IS_CLOSED, OUTSIDE, BAD_WAY, and NO_VERSION exactly where
- * all else is right and the file hasn't the version. They never take memory. */
+ * all else is right and the file hasn't the version. They take no memory. */
 static inline voxdag_status voxdag_versions_get(voxdag_versions *v, uint32_t version, const voxdag_place *at, bool *set)
 {
     bool is = false;
@@ -617,6 +625,52 @@ static inline voxdag_status voxdag_versions_ray(voxdag_versions *v, uint32_t ver
     status = voxdag_c_versions_ray(v, version, from, voxdag_step(dx), voxdag_step(dy), voxdag_step(dz), &is, hit);
     if (!status) *some = is;
     return status;
+}
+
+/* Of two versions NO_VERSION comes where the file lacks one of them. */
+static inline voxdag_status voxdag_versions_same(voxdag_versions *v, uint32_t a, uint32_t b, bool *same)
+{
+    bool is = false;
+    voxdag_status status;
+    if (!v || !same) return VOXDAG_NULL;
+    status = voxdag_c_versions_same(v, a, b, &is);
+    if (!status) *same = is;
+    return status;
+}
+
+static inline voxdag_status voxdag_versions_changes(voxdag_versions *v, uint32_t a, uint32_t b, bool *some, voxdag_box *least)
+{
+    bool are = false;
+    voxdag_status status;
+    if (!v || !some || !least) return VOXDAG_NULL;
+    status = voxdag_c_versions_changes(v, a, b, &are, least);
+    if (!status) *some = are;
+    return status;
+}
+
+/* These write bytes and cells as the calls of a world without tints do, and may answer NO_MEMORY. */
+static inline voxdag_status voxdag_versions_save(voxdag_versions *v, uint32_t version, const voxdag_box *part, uint8_t *out, size_t size,
+                                                 size_t *needed)
+{
+    uint8_t none = 0;
+    if (!v || !part || !needed || (!out && size)) return VOXDAG_NULL;
+    return voxdag_c_versions_save(v, version, part, out ? out : &none, size, needed);
+}
+
+static inline voxdag_status voxdag_versions_surface(voxdag_versions *v, uint32_t version, const voxdag_box *part, voxdag_shown *out,
+                                                    size_t room, size_t *needed)
+{
+    voxdag_shown none = {0, 0, 0, 0, 0};
+    if (!v || !part || !needed || (!out && room)) return VOXDAG_NULL;
+    return voxdag_c_versions_surface(v, version, part, out ? out : &none, room, needed);
+}
+
+static inline voxdag_status voxdag_versions_flood(voxdag_versions *v, uint32_t version, const voxdag_box *part, const voxdag_place *from,
+                                                  uint64_t *cells, uint8_t *out, size_t size, size_t *needed)
+{
+    uint8_t none = 0;
+    if (!v || !part || !from || !cells || !needed || (!out && size)) return VOXDAG_NULL;
+    return voxdag_c_versions_flood(v, version, part, from, cells, out ? out : &none, size, needed);
 }
 
 #ifdef __cplusplus

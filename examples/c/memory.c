@@ -128,15 +128,23 @@ static int held(long n)
     };
     const voxdag_box all = {{0, 0, 0}, {4, 4, 4}};
     voxdag_versions v = VOXDAG_NO_VERSIONS;
+    static uint8_t out[512];
+    size_t needed = 7;
     uint64_t cells = 0, at = 7;
     left = n;
     voxdag_status s = voxdag_versions_open(&v, file, sizeof file, &at);
     if (at != 7) return 2;
     if (s != VOXDAG_OK) return s == VOXDAG_NO_MEMORY && left == -1 && voxdag_versions_close(&v) == VOXDAG_IS_CLOSED ? 1 : 2;
+    int failed = 0;
+    s = voxdag_versions_save(&v, 2, &all, out, sizeof out, &needed);
+    if (s == VOXDAG_NO_MEMORY) {
+        failed = 1;
+        if (needed != 7 || voxdag_versions_save(&v, 2, &all, out, sizeof out, &needed)) return 2;
+    } else if (s != VOXDAG_OK) return 2;
     left = 0;
     s = voxdag_versions_count(&v, 2, &all, &cells);
     left = -1;
-    return s || cells != 64 || voxdag_versions_close(&v) ? 2 : 0;
+    return s || cells != 64 || needed != 60 + 4 * 64 || voxdag_versions_close(&v) ? 2 : failed;
 }
 
 /* The same of a world with tints, up to the file of a box and what can be seen of it. */

@@ -77,7 +77,8 @@ SIGNATURES: dict[str, list[Any]] = {
     "versions_side": [_P(_N)],
 }
 # A file of versions is asked as a world is.
-SIGNATURES.update({f"versions_{name}": SIGNATURES[name] for name in ("newest", "get", "count", "faces", "bounds", "ray")})
+_ASKED = ["newest", "get", "count", "faces", "bounds", "ray", "same", "changes", "surface", "save", "flood"]
+SIGNATURES.update({f"versions_{name}": SIGNATURES[name] for name in _ASKED})
 
 
 class Library:

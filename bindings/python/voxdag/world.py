@@ -176,6 +176,73 @@ class _Held:
         self._call("ray", _number(version), _place(start), dx, dy, dz, c.byref(some), c.byref(hit))
         return Place(hit.x, hit.y, hit.z) if some.value else None
 
+    def same(self, a: int, b: int) -> bool:
+        """Whether two versions have the same cells, and in a world with tints the same tints."""
+        is_same = c.c_bool()
+        self._call("same", _number(a), _number(b), c.byref(is_same))
+        return is_same.value
+
+    def changes(self, a: int, b: int) -> Optional[Box]:
+        """The least box of all cells that differ between two versions, by their tints too, or None where none do."""
+        some, least = c.c_bool(), CBox()
+        self._call("changes", _number(a), _number(b), c.byref(some), c.byref(least))
+        return _six(least) if some.value else None
+
+    # ---- bytes
+
+    def _bytes(self, call: Callable[[Any, int, Any], None], unit: int = 1) -> bytes:
+        """What a call writes, of so many bytes a unit. The room is kept for a later call, and grows with what is asked."""
+        needed = c.c_size_t()
+        room = self._rooms.pop() if self._rooms else bytearray(1 << 16)
+        try:
+            call((c.c_ubyte * len(room)).from_buffer(room), len(room) // unit, c.byref(needed))
+        except TooSmall:
+            room = bytearray(needed.value * unit)
+            call((c.c_ubyte * len(room)).from_buffer(room), needed.value, c.byref(needed))
+        if len(room) <= 1 << 22:
+            self._rooms.append(room)
+        return bytes(memoryview(room)[: needed.value * unit])
+
+    def surface_bytes(self, version: int, box: Sequence[int]) -> bytes:
+        """The set cells of a box, at most 256 each way, that have an unset neighbour or the world's outside beside them,
+        by rising z, then y, then x. Each is five bytes: x, y and z from the box's corner, the tint, and which sides are
+        bare, in bits 0 to 5 for -x +x -y +y -z +z."""
+        number, part = _number(version), _box(box)
+        return self._bytes(lambda out, room, needed: self._call("surface", number, part, out, room, needed), 5)
+
+    def surface(self, version: int, box: Sequence[int]) -> Any:
+        """The same as an array of n x 5 bytes."""
+        data = self.surface_bytes(version, box)
+        return _rows(data, (len(data) // 5, 5))
+
+    def save(self, version: int, box: Sequence[int]) -> bytes:
+        """The VOX file of a box, at most 256 each way."""
+        number, part = _number(version), _box(box)
+        return self._bytes(lambda out, size, needed: self._call("save", number, part, out, size, needed))
+
+    def tints(self, version: int, box: Sequence[int]) -> Any:
+        """The tints of a box's cells, at most 256 each way, as an array of three axes, x first: 0 where a cell is clear,
+        and 1 where one is set in a world without tints."""
+        file = self.save(version, box)
+        a, b, d = list(box)[3:]
+        cells = bytearray(a * b * d)
+        # The file has one model: its header, MAIN, SIZE and then XYZI, whose number of groups stands at 56.
+        groups = memoryview(file)[60:]
+        if numpy is not None:
+            grid = numpy.frombuffer(cells, dtype=numpy.uint8).reshape((a, b, d))
+            rows = numpy.frombuffer(groups, dtype=numpy.uint8).reshape((-1, 4))
+            grid[rows[:, 0], rows[:, 1], rows[:, 2]] = rows[:, 3]
+            return grid
+        for x, y, z, tint in zip(groups[0::4], groups[1::4], groups[2::4], groups[3::4]):
+            cells[(x * b + y) * d + z] = tint
+        return memoryview(cells).cast("B", [a, b, d])
+
+    def flood(self, version: int, box: Sequence[int], start: Sequence[int]) -> tuple[int, bytes]:
+        """The unset cells of a box, at most 256 each way, that steps from a cell lead to: how many, and their VOX file."""
+        number, part, place, cells = _number(version), _box(box), _place(start), c.c_uint64()
+        file = self._bytes(lambda out, size, needed: self._call("flood", number, part, place, c.byref(cells), out, size, needed))
+        return cells.value, file
+
 
 class World(_Held):
     """A voxel world with versions. Version 0 is empty, and each change that is accepted makes the next one.
@@ -295,66 +362,7 @@ class World(_Held):
         self._call("colour", _number(version), _place(at), c.byref(tint))
         return tint.value
 
-    def same(self, a: int, b: int) -> bool:
-        """Whether two versions have the same cells, and in a world with tints the same tints."""
-        is_same = c.c_bool()
-        self._call("same", _number(a), _number(b), c.byref(is_same))
-        return is_same.value
-
-    def changes(self, a: int, b: int) -> Optional[Box]:
-        """The least box of all cells that differ between two versions, by their tints too, or None where none do."""
-        some, least = c.c_bool(), CBox()
-        self._call("changes", _number(a), _number(b), c.byref(some), c.byref(least))
-        return _six(least) if some.value else None
-
     # ---- bytes
-
-    def _bytes(self, call: Callable[[Any, int, Any], None], unit: int = 1) -> bytes:
-        """What a call writes, of so many bytes a unit. The room is kept for a later call, and grows with what is asked."""
-        needed = c.c_size_t()
-        room = self._rooms.pop() if self._rooms else bytearray(1 << 16)
-        try:
-            call((c.c_ubyte * len(room)).from_buffer(room), len(room) // unit, c.byref(needed))
-        except TooSmall:
-            room = bytearray(needed.value * unit)
-            call((c.c_ubyte * len(room)).from_buffer(room), needed.value, c.byref(needed))
-        if len(room) <= 1 << 22:
-            self._rooms.append(room)
-        return bytes(memoryview(room)[: needed.value * unit])
-
-    def surface_bytes(self, version: int, box: Sequence[int]) -> bytes:
-        """The set cells of a box, at most 256 each way, that have an unset neighbour or the world's outside beside them,
-        by rising z, then y, then x. Each is five bytes: x, y and z from the box's corner, the tint, and which sides are
-        bare, in bits 0 to 5 for -x +x -y +y -z +z."""
-        number, part = _number(version), _box(box)
-        return self._bytes(lambda out, room, needed: self._call("surface", number, part, out, room, needed), 5)
-
-    def surface(self, version: int, box: Sequence[int]) -> Any:
-        """The same as an array of n x 5 bytes."""
-        data = self.surface_bytes(version, box)
-        return _rows(data, (len(data) // 5, 5))
-
-    def save(self, version: int, box: Sequence[int]) -> bytes:
-        """The VOX file of a box, at most 256 each way."""
-        number, part = _number(version), _box(box)
-        return self._bytes(lambda out, size, needed: self._call("save", number, part, out, size, needed))
-
-    def tints(self, version: int, box: Sequence[int]) -> Any:
-        """The tints of a box's cells, at most 256 each way, as an array of three axes, x first: 0 where a cell is clear,
-        and 1 where one is set in a world without tints."""
-        file = self.save(version, box)
-        a, b, d = list(box)[3:]
-        cells = bytearray(a * b * d)
-        # The file has one model: its header, MAIN, SIZE and then XYZI, whose number of groups stands at 56.
-        groups = memoryview(file)[60:]
-        if numpy is not None:
-            grid = numpy.frombuffer(cells, dtype=numpy.uint8).reshape((a, b, d))
-            rows = numpy.frombuffer(groups, dtype=numpy.uint8).reshape((-1, 4))
-            grid[rows[:, 0], rows[:, 1], rows[:, 2]] = rows[:, 3]
-            return grid
-        for x, y, z, tint in zip(groups[0::4], groups[1::4], groups[2::4], groups[3::4]):
-            cells[(x * b + y) * d + z] = tint
-        return memoryview(cells).cast("B", [a, b, d])
 
     def journal(self) -> bytes:
         """The text of the journal."""
@@ -363,12 +371,6 @@ class World(_Held):
     def dag(self) -> bytes:
         """The file of the versions that are held."""
         return self._bytes(lambda out, size, needed: self._call("dag", out, size, needed))
-
-    def flood(self, version: int, box: Sequence[int], start: Sequence[int]) -> tuple[int, bytes]:
-        """The unset cells of a box, at most 256 each way, that steps from a cell lead to: how many, and their VOX file."""
-        number, part, place, cells = _number(version), _box(box), _place(start), c.c_uint64()
-        file = self._bytes(lambda out, size, needed: self._call("flood", number, part, place, c.byref(cells), out, size, needed))
-        return cells.value, file
 
 
 class Versions(_Held):

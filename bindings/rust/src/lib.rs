@@ -228,6 +228,11 @@ calls! {
     voxdag_versions_faces(version: u32, part: *const Boxed, faces: *mut u64);
     voxdag_versions_bounds(version: u32, some: *mut bool, least: *mut Boxed);
     voxdag_versions_ray(version: u32, from: *const Place, dx: i32, dy: i32, dz: i32, some: *mut bool, hit: *mut Place);
+    voxdag_versions_same(a: u32, b: u32, same: *mut bool);
+    voxdag_versions_changes(a: u32, b: u32, some: *mut bool, least: *mut Boxed);
+    voxdag_versions_save(version: u32, part: *const Boxed, out: *mut u8, size: usize, needed: *mut usize);
+    voxdag_versions_surface(version: u32, part: *const Boxed, out: *mut Shown, room: usize, needed: *mut usize);
+    voxdag_versions_flood(version: u32, part: *const Boxed, from: *const Place, cells: *mut u64, out: *mut u8, size: usize, needed: *mut usize);
 }
 #[cfg(voxdag = "about")]
 calls! { voxdag_about(plan: *mut Plan); }
@@ -545,6 +550,38 @@ impl Versions {
         let [dx, dy, dz] = steps;
         told(unsafe { voxdag_versions_ray(&mut self.0, version, &from, dx, dy, dz, &mut some, &mut hit) })?;
         Ok(some.then_some(hit))
+    }
+
+    pub fn same(&mut self, a: u32, b: u32) -> Answer<bool> {
+        let mut same = false;
+        told(unsafe { voxdag_versions_same(&mut self.0, a, b, &mut same) })?;
+        Ok(same)
+    }
+
+    /// The least box of all cells that differ between two versions, where some do.
+    pub fn changes(&mut self, a: u32, b: u32) -> Answer<Option<Boxed>> {
+        let (mut some, mut least) = (false, Boxed::default());
+        told(unsafe { voxdag_versions_changes(&mut self.0, a, b, &mut some, &mut least) })?;
+        Ok(some.then_some(least))
+    }
+
+    /// What can be seen of a box of a version, each cell with tint 1.
+    pub fn surface(&mut self, version: u32, part: Boxed) -> Answer<Vec<Shown>> {
+        let handle = &mut self.0;
+        whole(|out, room, needed| unsafe { voxdag_versions_surface(handle, version, &part, out, room, needed) })
+    }
+
+    /// The VOX file of a box of a version.
+    pub fn save(&mut self, version: u32, part: Boxed) -> Answer<Vec<u8>> {
+        let handle = &mut self.0;
+        whole(|out, size, needed| unsafe { voxdag_versions_save(handle, version, &part, out, size, needed) })
+    }
+
+    /// How many unset cells of a box steps from a cell lead to, and their VOX file.
+    pub fn flood(&mut self, version: u32, part: Boxed, from: Place) -> Answer<(u64, Vec<u8>)> {
+        let (handle, mut cells) = (&mut self.0, 0);
+        let file = whole(|out, size, needed| unsafe { voxdag_versions_flood(handle, version, &part, &from, &mut cells, out, size, needed) })?;
+        Ok((cells, file))
     }
 }
 

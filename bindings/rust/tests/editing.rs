@@ -85,6 +85,9 @@ fn a_file_of_versions_is_asked() -> Result<(), Refusal> {
     assert_eq!((versions.count(1, all)?, versions.faces(1, all)?), (2, 10));
     assert_eq!(versions.bounds(1)?, Some(two));
     assert_eq!(versions.ray(1, place(7, 2, 3), [-1, 0, 0])?, Some(place(2, 2, 3)));
+    assert_eq!((versions.changes(1, 2)?, versions.same(1, 2)?, versions.same(2, 2)?), (Some(boxed(two.at, place(1, 1, 1))), false, true));
+    assert_eq!((versions.surface(1, all)?, versions.save(2, two)?), (world.surface(1, all)?, world.save(2, two)?));
+    assert_eq!(versions.flood(2, two, two.at)?, world.flood(2, two, two.at)?);
     assert_eq!((versions.count(0, all), versions.bounds(3)), (Err(Refusal::NoVersion), Err(Refusal::NoVersion)));
     assert_eq!(versions.count(1, boxed(two.at, place(8, 1, 1))), Err(Refusal::Outside));
     file.push(0);

@@ -1,5 +1,6 @@
 -- What is told of the root of a version is told of the version's cells.
-use Rattle.std.proofs.Common.{◌≡◌, ℕ, ◌-◌, ◌^◌, Bool, true, false, List, Option, Some, None, refl, sym, subst, ◌∙◌}
+use Rattle.std.proofs.Common.{◌≡◌, ℕ, ◌-◌, ◌^◌, Bool, true, false, List, Option, Some, None, refl, sym, subst}
+use Rattle.std.specs.Prelude.{Result, Ok, Err, IfOk}
 use Rattle.std.proofs.lemmas.Bool.{false≢true}
 use Rattle.vw_cell.specs.declared.boxes.Boxed.{Boxed}
 use Rattle.vw_cell.specs.Extents.{IsExtent, IsLeastBox}
@@ -20,18 +21,41 @@ of_version o number root P has stands tells = record {
   holds = tells (version_tree o.bytes (o.side - 1) has.0) (stands has.0 has.1);
 }
 
-pub of_both : (o : Opened) (a b : ℕ) (before after : Option Name) (P : World → World → Type 0)
-    → HasVersion o.bytes (o.side - 1) a → StandsForVersion o a before
-    → HasVersion o.bytes (o.side - 1) b → StandsForVersion o b after
-    → ForWorld (opened_state o).held o.side before
-    (λ old. ForWorld (opened_state o).held o.side after (P old))
-    → OfVersion o.bytes o.side a (λ old. OfVersion o.bytes o.side b (P old))
-of_both o a b before after P has_a stands_a has_b stands_b tells = record {
-  v = has_a.0;
-  is = has_a.1;
-  holds = of_version o b after (P _) has_b stands_b
-      (tells (version_tree o.bytes (o.side - 1) has_a.0) (stands_a has_a.0 has_a.1));
-}
+-- what is made of a root that stands in the store of the side, where it is made
+pub made_of_version : {X E : Type 0} (P : ℕ → X → World → Type 0) (o : Opened) (number : ℕ)
+    (root : Option Name) (side : ℕ) (name : Option Name) (result : Result X E)
+    → HasVersion o.bytes (o.side - 1) number → StandsForVersion o number root → side ≡ o.side
+    → name ≡ root
+    → IfOk result (λ x. ForWorld (opened_state o).held side name (P side x))
+    → IfOk result (λ x. OfVersion o.bytes o.side number (P o.side x))
+made_of_version P o number root side name (Err e) has stands of_side of_root made = tt
+made_of_version P o number root side name (Ok x) has stands of_side of_root made =
+    of_version o number root (P o.side x) has stands
+    (subst (λ (r : Option Name). ForWorld (opened_state o).held o.side r (P o.side x)) of_root
+    (subst (λ (s : ℕ). ForWorld (opened_state o).held s name (P s x)) of_side made))
+
+-- the least box of all that differs between two roots
+module _ (o : Opened) (a b side : ℕ) (before after first second : Option Name)
+    (least : Option Boxed) where
+  pub told_changes : HasVersion o.bytes (o.side - 1) a → StandsForVersion o a before
+      → HasVersion o.bytes (o.side - 1) b → StandsForVersion o b after → side ≡ o.side
+      → first ≡ before → second ≡ after
+      → ForWorld (opened_state o).held side first
+      (λ old. ForWorld (opened_state o).held side second
+      (λ new. IsExtent (2 ^ side) (differs old new) least))
+      → TellsChanges o.bytes o.side a b least
+  told_changes has_a stands_a has_b stands_b of_side of_first of_second tells =
+      let P : ℕ → Option Name → Option Name → Type 0 = λ s x y. ForWorld (opened_state o).held s x (λ old. ForWorld (opened_state o).held s y (λ new. IsExtent (2 ^ s) (differs old new) least)) in
+      let told : P o.side before after =
+      subst (λ (y : Option Name). P o.side before y) of_second
+      (subst (λ (x : Option Name). P o.side x second) of_first
+      (subst (λ (s : ℕ). P s first second) of_side tells)) in
+      record {
+        v = has_a.0;
+        is = has_a.1;
+        holds = of_version o b after _ has_b stands_b
+            (told (version_tree o.bytes (o.side - 1) has_a.0) (stands_a has_a.0 has_a.1));
+      }
 
 -- ---- what differs nowhere is the same
 

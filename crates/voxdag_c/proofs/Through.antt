@@ -1,5 +1,5 @@
 -- What a call does through a handle, from what it does to the world that is held.
-use Rattle.std.proofs.Common.{◌≡◌, Bool, ℕ, Option, Some, None, List, sym, ◌∙◌, ap, subst}
+use Rattle.std.proofs.Common.{◌≡◌, Bool, ℕ, Option, Some, None, List, refl, sym, ◌∙◌, ap, subst}
 use Rattle.std.proofs.Common.{ℤ, SFits, w16, to_z, of_z}
 use Rattle.vw_cell.specs.declared.cells.Cell.{Cell}
 use Rattle.history_model.specs.Ways.{Heading, heading_of}
@@ -32,6 +32,14 @@ pub through_asks : {X : Type 0} (Untouched : Type 0) (Asks : X → ℕ → Type 
 through_asks {X} Untouched Asks old new w u v status was is now same asks =
     through_open Untouched (λ x n y. (y ≡ x) × Asks x n) old new u v status
     (ap (λ (x : X). Some x) is ∙ was) now (same, asks)
+
+-- a call that only reads
+pub through_reads : {X : Type 0} (Untouched : Type 0) (Asks : X → ℕ → Type 0) (old new : Option X)
+    (w u : X) (status : ℕ) → Some w ≡ old → u ≡ w → new ≡ Some w → Asks u status
+    → ByHandle Untouched (λ x n y. (y ≡ x) × Asks x n) old status new
+through_reads {X} Untouched Asks old new w u status was is now asks =
+    through_open Untouched (λ x n y. (y ≡ x) × Asks x n) old new w w status was now
+    (refl, subst (λ (x : X). Asks x status) is asks)
 
 -- a ray by steps of 16 bits
 pub by_steps : {w : CWorld} {version : ℕ} {from : Cell} {Written : Answer → Type 0}

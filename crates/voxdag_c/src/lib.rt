@@ -20,7 +20,7 @@ ghost use Rattle.voxdag_c.specs.held.Calls.{ByHandle, WorldChanges, WorldForgets
 ghost use Rattle.voxdag_c.specs.held.Calls.{ByKind, WorldDiffers, WorldShows, WorldFloods, WorldTints, act_here};
 ghost use Rattle.voxdag_c.specs.held.Calls.{PutsNewest, PutsSize, WritesNothing, ClosesHandle};
 ghost use Rattle.voxdag_c.specs.held.Facts.{WorldFiles, PutsPlan};
-ghost use Rattle.voxdag_c.specs.held.Files.{TellsSide, TellsNewest, FileAsks, OpensDag};
+ghost use Rattle.voxdag_c.specs.held.Files.{TellsSide, TellsNewest, FileAsks, FileCompares, FileDiffers, FileSaves, FileShows, FileFloods, OpensDag};
 ghost use Rattle.voxdag_c.specs.held.GoingOn.{GoesOnInHandle};
 ghost use Rattle.voxdag_c.specs.held.Scenes.{OpensScene};
 
@@ -1008,6 +1008,139 @@ pub extern "C" fn voxdag_c_versions_ray(
         None => status::CLOSED,
         Some(held) => {
             let status = held.ray(version, *from, dx, dy, dz, some, hit);
+            handle.put(held);
+            status
+        }
+    }
+}
+
+/// Whether two versions have the same cells.
+#[tactic(auto, using(crate::proofs::Through::through_closed, crate::proofs::Through::through_open))]
+#[unsafe(no_mangle)]
+pub extern "C" fn voxdag_c_versions_same(
+    alloc: Global,
+    handle: &mut FileHandle,
+    a: u32,
+    b: u32,
+    same: &mut bool,
+) -> u32
+    ensures { ByHandle (same.new ≡ same.old)
+        (λ f status g. (g ≡ f) × FileCompares f a b same.old same.new status)
+        handle.old.kept.value result handle.new.kept.value }
+{
+    match handle.take(alloc) {
+        None => status::CLOSED,
+        Some(held) => {
+            let status = held.same(a, b, same);
+            handle.put(held);
+            status
+        }
+    }
+}
+
+/// The least box of all cells that differ in two versions, where any do.
+#[tactic(auto, using(crate::proofs::Through::through_closed, crate::proofs::Through::through_open))]
+#[unsafe(no_mangle)]
+pub extern "C" fn voxdag_c_versions_changes(
+    alloc: Global,
+    handle: &mut FileHandle,
+    a: u32,
+    b: u32,
+    some: &mut bool,
+    least: &mut CBox,
+) -> u32
+    ensures { ByHandle ((some.new ≡ some.old) × (least.new ≡ least.old))
+        (λ f status g. (g ≡ f) × FileDiffers f a b
+        (λ found. (found ≡ extent_of some.new least.new)
+        × (some.new ≡ false → least.new ≡ least.old))
+        ((some.new ≡ some.old) × (least.new ≡ least.old)) status)
+        handle.old.kept.value result handle.new.kept.value }
+{
+    match handle.take(alloc) {
+        None => status::CLOSED,
+        Some(held) => {
+            let status = held.changes(a, b, some, least);
+            handle.put(held);
+            status
+        }
+    }
+}
+
+/// The VOX file of a box of a version, and how many bytes it has.
+#[tactic(auto, using(crate::proofs::Through::through_closed, crate::proofs::Through::through_open))]
+#[unsafe(no_mangle)]
+pub extern "C" fn voxdag_c_versions_save(
+    alloc: Global,
+    handle: &mut FileHandle,
+    version: u32,
+    part: &CBox,
+    out: &mut [u8],
+    needed: &mut usize,
+) -> u32
+    ensures { ByHandle (WritesNothing out.old out.new needed.old needed.new)
+        (λ f status g. (g ≡ f) × FileSaves f version (box_of part.now) out.old out.new
+        needed.old needed.new status)
+        handle.old.kept.value result handle.new.kept.value }
+{
+    match handle.take(alloc) {
+        None => status::CLOSED,
+        Some(held) => {
+            let status = held.save(alloc, version, *part, out, needed);
+            handle.put(held);
+            status
+        }
+    }
+}
+
+/// The cells of a box of a version that can be seen, and how many they are.
+#[tactic(auto, using(crate::proofs::Through::through_closed, crate::proofs::Through::through_open))]
+#[unsafe(no_mangle)]
+pub extern "C" fn voxdag_c_versions_surface(
+    alloc: Global,
+    handle: &mut FileHandle,
+    version: u32,
+    part: &CBox,
+    out: &mut [CShown],
+    needed: &mut usize,
+) -> u32
+    ensures { ByHandle (WritesNothing out.old out.new needed.old needed.new)
+        (λ f status g. (g ≡ f) × FileShows f version (box_of part.now) out.old out.new
+        needed.old needed.new status)
+        handle.old.kept.value result handle.new.kept.value }
+{
+    match handle.take(alloc) {
+        None => status::CLOSED,
+        Some(held) => {
+            let status = held.surface(alloc, version, *part, out, needed);
+            handle.put(held);
+            status
+        }
+    }
+}
+
+/// The region of a box of a version that is connected with a cell: how many cells, and its VOX
+/// file.
+#[tactic(auto, using(crate::proofs::Through::through_closed, crate::proofs::Through::through_open))]
+#[unsafe(no_mangle)]
+pub extern "C" fn voxdag_c_versions_flood(
+    alloc: Global,
+    handle: &mut FileHandle,
+    version: u32,
+    part: &CBox,
+    from: &CPlace,
+    cells: &mut u64,
+    out: &mut [u8],
+    needed: &mut usize,
+) -> u32
+    ensures { ByHandle ((cells.new ≡ cells.old) × WritesNothing out.old out.new needed.old needed.new)
+        (λ f status g. (g ≡ f) × FileFloods f version (box_of part.now) (cell_of_c_place from.now)
+        cells.old cells.new out.old out.new needed.old needed.new status)
+        handle.old.kept.value result handle.new.kept.value }
+{
+    match handle.take(alloc) {
+        None => status::CLOSED,
+        Some(held) => {
+            let status = held.flood(alloc, version, *part, *from, cells, out, needed);
             handle.put(held);
             status
         }

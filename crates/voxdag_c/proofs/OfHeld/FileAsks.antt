@@ -1,9 +1,11 @@
 -- What a question of a file of versions comes to, case by case.
-use Rattle.std.proofs.Common.{◌≡◌, ℕ, ◌-◌, ◌^◌, List, Option, Some, None, refl, sym, ◌∙◌, ap, subst}
+use Rattle.std.proofs.Common.{◌≡◌, ℕ, ◌-◌, ◌^◌, ◌<◌, ◌≤◌, ◌++◌, List, Option, Some, None, drop, length, map, refl, sym, ◌∙◌, ap, subst, arith}
+use Rattle.std.proofs.lemmas.List.{length-map}
 use Rattle.std.proofs.Common.{ℤ, SFits, w16, to_z, of_z}
 use Rattle.std.specs.Prelude.{Result, Ok, Err, IfErr}
 use Rattle.vw_cell.specs.declared.cells.Cell.{Cell}
 use Rattle.vw_cell.specs.declared.boxes.Boxed.{Boxed}
+use Rattle.vox_read.specs.declared.voxels.Voxel.{Voxel}
 use Rattle.history_model.specs.Ways.{Heading, heading_of}
 use Rattle.history_model.specs.declared.questions.Question.{Question}
 use Rattle.history_model.specs.declared.questions.Question.TheVariants as questions
@@ -16,9 +18,13 @@ use Rattle.dag_file.specs.Reads.{SaysFault}
 use Rattle.dag_file.specs.Rules.{FirstFault}
 use Rattle.dag_file.specs.Trees.{Opened, HasVersion}
 use Rattle.dag_answers.specs.Looks.{AnswersFileVersion, version_has, version_tints}
+use Rattle.dag_answers.specs.OfVersions.{HasBoth}
 use Rattle.voxdag_c.specs.declared.held.files.CFile.{CFile}
-use Rattle.voxdag_c.specs.held.Calls.{is_in, cells_in, faces_answered, extent_in, hit_in}
-use Rattle.voxdag_c.specs.held.Files.{FileAsks, IsFileOf, RefusesDag, PutsDagFault, OpensDag}
+use Rattle.voxdag_c.specs.declared.held.places.CBox.{CBox}
+use Rattle.voxdag_c.specs.declared.held.shown.CShown.{CShown}
+use Rattle.voxdag_c.specs.held.Places.{box_of, shown_by}
+use Rattle.voxdag_c.specs.held.Calls.{PutsItems, WritesItems, is_in, cells_in, faces_answered, extent_in, hit_in}
+use Rattle.voxdag_c.specs.held.Files.{FileAsks, FileHas, FileHasBoth, IsFileOf, RefusesDag, PutsDagFault, OpensDag}
 use Rattle.voxdag_c.proofs.OfHeld.Changing.{tells_is, tells_count, tells_faces, tells_extent, tells_hit}
 use Rattle.voxdag_c.proofs.OfHeld.Fitting.{same_steps}
 
@@ -44,6 +50,47 @@ module _ (f : CFile) (view : Opened) (side : ℕ) (viewed : view ≡ f.file) (of
     where
   pub file_cells : 2 ^ side ≡ 2 ^ f.file.side
   file_cells = ap (λ (s : ℕ). 2 ^ s) of_view ∙ ap (λ (o : Opened). 2 ^ o.side) viewed
+
+-- of the file that is viewed, and the box that was handed in
+pub file_moved : (P : List ℕ → ℕ → Boxed → Type 0) (f : CFile) (view : Opened) (part : CBox)
+    (b : Boxed) → view ≡ f.file → b ≡ box_of part → P view.bytes view.side b
+    → P f.file.bytes f.file.side (box_of part)
+file_moved P f view part b viewed same told =
+    subst (λ (o : Opened). P o.bytes o.side (box_of part)) viewed
+    (subst (λ (x : Boxed). P view.bytes view.side x) same told)
+
+-- the file has what its view has, and lacks what that lacks
+module _ (f : CFile) (view : Opened) (version : ℕ) (viewed : view ≡ f.file) where
+  pub file_has : HasVersion view.bytes (view.side - 1) version → FileHas f version
+  file_has has = subst (λ (o : Opened). HasVersion o.bytes (o.side - 1) version) viewed has
+
+  pub file_has_not : (HasVersion view.bytes (view.side - 1) version → ⊥) → FileHas f version → ⊥
+  file_has_not none has =
+      none (subst (λ (o : Opened). HasVersion o.bytes (o.side - 1) version) (sym viewed) has)
+
+pub file_lacks_one : (f : CFile) (view : Opened) (a b : ℕ) → view ≡ f.file
+    → (HasBoth view.bytes view.side a b → ⊥) → FileHasBoth f a b → ⊥
+file_lacks_one f view a b viewed none has =
+    none (subst (λ (o : Opened). HasBoth o.bytes o.side a b) (sym viewed) has)
+
+-- cells are written, each with tint 1
+module _ (voxels : List Voxel) (old new : List CShown) where
+  pub shows_none : length old < length voxels
+      → WritesItems (map (shown_by (λ v. 1)) voxels) old old (length voxels) 11
+  shows_none few =
+      let long = length-map voxels (shown_by (λ v. 1)) in
+      record { puts = PutsItems.too_small (omega (arith, few, long)) refl; number = sym long }
+
+  pub shows_all : length voxels ≤ length old
+      → new ≡ map (shown_by (λ v. 1)) voxels ++ drop (length voxels) old
+      → WritesItems (map (shown_by (λ v. 1)) voxels) old new (length voxels) 0
+  shows_all room is =
+      let long = length-map voxels (shown_by (λ v. 1)) in
+      record {
+        puts = PutsItems.put (omega (arith, room, long))
+            (is ∙ ap (λ (n : ℕ). map (shown_by (λ v. 1)) voxels ++ drop n old) (sym long));
+        number = sym long;
+      }
 
 -- the answers to questions have the form that these ask for
 module _ (bytes : List ℕ) (side number : ℕ) (answer : Answer) where
