@@ -24,7 +24,9 @@ ghost use Rattle.voxdag_c.specs.held.Files.{TellsSide, TellsNewest, FileAsks, Fi
 ghost use Rattle.voxdag_c.specs.held.GoingOn.{GoesOnInHandle};
 ghost use Rattle.voxdag_c.specs.held.Scenes.{OpensScene};
 
-use crate::held::{CBox, CFile, CPlace, CPlan, CScene, CShown, CWorld, FileHandle, Handle, statuses as status};
+use crate::held::{
+    CBox, CFile, CPlace, CPlan, CScene, CShown, CWorld, FileHandle, Handle, statuses as status,
+};
 use std::alloc::Global;
 
 /// Sets the cells of a box.

@@ -47,9 +47,9 @@ module _ (f : CFile) (version : ℕ) (q question : Question) (Written : Answer �
 -- ---- what a view of the file tells
 
 module _ (f : CFile) (view : Opened) (side : ℕ) (viewed : view ≡ f.file) (of_view : side ≡ view.side)
-    where
-  pub file_cells : 2 ^ side ≡ 2 ^ f.file.side
-  file_cells = ap (λ (s : ℕ). 2 ^ s) of_view ∙ ap (λ (o : Opened). 2 ^ o.side) viewed
+  where
+    pub file_cells : 2 ^ side ≡ 2 ^ f.file.side
+    file_cells = ap (λ (s : ℕ). 2 ^ s) of_view ∙ ap (λ (o : Opened). 2 ^ o.side) viewed
 
 -- of the file that is viewed, and the box that was handed in
 pub file_moved : (P : List ℕ → ℕ → Boxed → Type 0) (f : CFile) (view : Opened) (part : CBox)

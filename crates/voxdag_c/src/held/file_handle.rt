@@ -16,7 +16,7 @@ pub struct FileHandle {
 
 impl FileHandle {
     /// The file, which the handle has no longer.
-    pub fn take(&mut self, alloc: Global) -> Option<Box<CFile, Global>>
+    pub(crate) fn take(&mut self, alloc: Global) -> Option<Box<CFile, Global>>
         ensures gone { self.new.kept.value ≡ None }
         ensures taken { IsHeldBy self.old.kept.value result }
     {
@@ -34,7 +34,7 @@ impl FileHandle {
     }
 
     /// The file comes to a handle that has none.
-    pub fn put(&mut self, file: Box<CFile, Global>)
+    pub(crate) fn put(&mut self, file: Box<CFile, Global>)
         requires { self.old.kept.value ≡ None }
         ensures { self.new.kept.value ≡ Some file.value }
     {

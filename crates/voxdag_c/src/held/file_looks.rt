@@ -18,7 +18,7 @@ use vox_read::Voxel;
 
 impl CFile {
     /// Whether two versions have the same cells.
-    pub fn same(&self, a: u32, b: u32, same: &mut bool) -> u32
+    pub(crate) fn same(&self, a: u32, b: u32, same: &mut bool) -> u32
         ensures { FileCompares self.now a b same.old same.new result }
     {
         let mut view = self.file.view();
@@ -32,7 +32,7 @@ impl CFile {
     }
 
     /// The least box of all cells that differ in two versions, where any do.
-    pub fn changes(&self, a: u32, b: u32, some: &mut bool, least: &mut CBox) -> u32
+    pub(crate) fn changes(&self, a: u32, b: u32, some: &mut bool, least: &mut CBox) -> u32
         ensures { FileDiffers self.now a b
             (λ found. (found ≡ extent_of some.new least.new)
             × (some.new ≡ false → least.new ≡ least.old))
@@ -50,7 +50,7 @@ impl CFile {
 
     /// Writes the VOX file of a box of a version, which has 256 cells a side at most, where there
     /// is room for it, and says how many bytes it has.
-    pub fn save(
+    pub(crate) fn save(
         &self,
         alloc: Global,
         version: u32,
@@ -79,7 +79,7 @@ impl CFile {
 
     /// Writes the cells of a box of a version that can be seen, each with tint 1, where there is
     /// room for them, and says how many they are. The box has 256 cells a side at most.
-    pub fn surface(
+    pub(crate) fn surface(
         &self,
         alloc: Global,
         version: u32,
@@ -109,7 +109,7 @@ impl CFile {
     /// Writes the VOX file of the cells of a box of a version that ways through its clear cells
     /// join with one of its cells, where there is room for it, and says how many cells and how
     /// many bytes these are. The box has 256 cells a side at most.
-    pub fn flood(
+    pub(crate) fn flood(
         &self,
         alloc: Global,
         version: u32,

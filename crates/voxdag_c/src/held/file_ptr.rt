@@ -4,8 +4,8 @@ ghost use Rattle.voxdag_c.specs.declared.held.files.CFile.{CFile};
 ghost use Rattle.voxdag_c.specs.held.OwnedFiles.{file_owns, file_coded};
 ghost use Rattle.voxdag_c.specs.held.Holding.{is_there};
 
-use crate::held::parts::Parts;
 use crate::held::files::CFile;
+use crate::held::parts::Parts;
 use std::alloc::Global;
 use std::marker::Model;
 use std::ptr::null_mut;

@@ -26,7 +26,11 @@ pub struct CFile {
 
 impl CFile {
     /// The file of these bytes, of which a copy is kept; or the place of its first fault is told.
-    pub fn from_bytes(alloc: Global, bytes: &[u8], at: &mut u64) -> Result<Box<CFile, Global>, u32>
+    pub(crate) fn from_bytes(
+        alloc: Global,
+        bytes: &[u8],
+        at: &mut u64,
+    ) -> Result<Box<CFile, Global>, u32>
         ensures opened { IfOk result (λ b. IsFileOf bytes.now b.value) }
         ensures same { IfOk result (λ _. at.new ≡ at.old) }
         ensures refused { IfErr result (RefusesDag bytes.now at.old at.new) }
@@ -42,7 +46,7 @@ impl CFile {
     }
 
     /// The side of the file's worlds.
-    pub fn put_side(&self, side: &mut u32) -> u32
+    pub(crate) fn put_side(&self, side: &mut u32) -> u32
         ensures { TellsSide self.now side.new result }
     {
         *side = self.file.view().side().cells();
@@ -50,7 +54,7 @@ impl CFile {
     }
 
     /// The greatest number of a version, where the file has one.
-    pub fn put_newest(&self, version: &mut u32) -> u32
+    pub(crate) fn put_newest(&self, version: &mut u32) -> u32
         ensures { TellsNewest self.now version.old version.new result }
     {
         match self.file.view().newest() {
@@ -63,7 +67,7 @@ impl CFile {
     }
 
     /// Whether a cell of a version is set.
-    pub fn get(&self, version: u32, place: CPlace, set: &mut bool) -> u32
+    pub(crate) fn get(&self, version: u32, place: CPlace, set: &mut bool) -> u32
         ensures { FileAsks self.now version (questions.Get (cell_of_c_place place))
             (λ a. a ≡ answers.Is set.new) (set.new ≡ set.old) result }
     {
@@ -80,7 +84,7 @@ impl CFile {
     }
 
     /// How many cells of a box of a version are set.
-    pub fn count(&self, version: u32, part: CBox, cells: &mut u64) -> u32
+    pub(crate) fn count(&self, version: u32, part: CBox, cells: &mut u64) -> u32
         ensures { FileAsks self.now version (questions.Count (box_of part))
             (λ a. a ≡ answers.Count cells.new) (cells.new ≡ cells.old) result }
     {
@@ -97,7 +101,7 @@ impl CFile {
     }
 
     /// How many pairs there are of a set cell of the box and a neighbour that isn't set.
-    pub fn faces(&self, version: u32, part: CBox, faces: &mut u64) -> u32
+    pub(crate) fn faces(&self, version: u32, part: CBox, faces: &mut u64) -> u32
         ensures { FileAsks self.now version (questions.Faces (box_of part))
             (λ a. a ≡ answers.Faces faces.new) (faces.new ≡ faces.old) result }
     {
@@ -114,7 +118,7 @@ impl CFile {
     }
 
     /// The least box that has all set cells of a version, where some are set.
-    pub fn bounds(&self, version: u32, some: &mut bool, least: &mut CBox) -> u32
+    pub(crate) fn bounds(&self, version: u32, some: &mut bool, least: &mut CBox) -> u32
         ensures { FileAsks self.now version questions.Bounds
             (λ a. (a ≡ answers.Extent (extent_of some.new least.new))
             × (some.new ≡ false → least.new ≡ least.old))
@@ -131,7 +135,7 @@ impl CFile {
 
     /// The first set cell of a version on a ray from the centre of a cell, where one is hit. Its
     /// steps are each from -1,024 to 1,024, and not all 0.
-    pub fn ray(
+    pub(crate) fn ray(
         &self,
         version: u32,
         from: CPlace,
