@@ -436,8 +436,8 @@ static int keeping(void)
 {
     const voxdag_plan two = {8, 0, 2, 0};
 #define THREE "voxdag journal 1\nside 8\n1 0 1 fill 0 0 0 8 8 8\n2 0 3 fill 0 0 0 8 8 8\n3 0 4 fill 0 0 0 8 8 8\n"
-    static const char before[] = THREE "mark 0 1 0 2\nmark 1 3 0 5\nend\n";
-    static const char after[] = THREE "4 0 6 fill 0 0 0 8 8 8\nmark 0 1 0 2\nmark 1 3 0 5\nmark 2 4 0 7\nend\n";
+    static const char before[] = THREE "mark 0 1 0 2\nmark 1 3 0 4\nend\n";
+    static const char after[] = THREE "4 0 6 fill 0 0 0 8 8 8\nmark 0 1 0 2\nmark 1 3 0 4\nmark 2 4 0 6\nend\n";
     voxdag_world w = VOXDAG_CLOSED;
     voxdag_box all = {{0, 0, 0}, {8, 8, 8}};
     uint64_t n = 0;

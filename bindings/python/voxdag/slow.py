@@ -11,8 +11,9 @@ library is compared with it (`oracle/library`). The definitions:
   version; an undo takes a version from the past, puts the one at which the world stood on the future, and goes there; a
   redo the other way. The version that they make has the cells of the one gone to.
 - A version with a mark is forgotten. Where the last `keep` versions alone are held, version n - keep is forgotten behind
-  record n, unless it was before.
-- What is done has session 0 and a line: the first accepted change or forgotten version has line 1, the next one line 2.
+  record n, by that record's line, unless it was before.
+- What is done has session 0 and a line: the first accepted change or version forgotten by hand has line 1, the next one
+  line 2.
   Behind a journal the next one has the number of its records and marks together, and one.
 
 Nothing is ever full here, and memory never lacks: those two refusals don't come.
@@ -299,15 +300,14 @@ class World:
             raise HistoryFull()
         self._append(name, a, target, f"0 {self._line}")
         newest = len(self._texts)
-        self._line += 1
         falls_out = newest - self._plan.keep
         if self._plan.keep and falls_out >= 0 and falls_out not in self._marks:
             self._mark(falls_out)
+        self._line += 1
         return newest
 
     def _mark(self, version: int) -> None:
         self._marks[version] = f"mark {version} {len(self._texts)} 0 {self._line}"
-        self._line += 1
 
     def _tint(self, tint: Optional[int]) -> int:
         if tint is None:
@@ -356,6 +356,7 @@ class World:
         if version == self.newest:
             raise IsNewest()
         self._mark(version)
+        self._line += 1
 
     # ---- questions
 

@@ -13,14 +13,9 @@ use Rattle.edit_walk.specs.cells.Paints.{whole_of_old}
 use Rattle.edit_walk.proofs.OfCells.PaintLaws.{old_block, old_has, paints_octant, paints_missed}
 use Rattle.colour.specs.declared.walks.TintTask.{TintTask}
 use Rattle.colour.specs.declared.walks.TintTask.TheVariants.{Plane}
-use Rattle.colour.specs.Walks.{LeavesBlock, MakesRow, Octants, first_octants, bit_octants, root_octants, makes_tint}
+use Rattle.colour.specs.Walks.{LeavesBlock, MakesRow, Octants, first_octants, bit_octants, root_octants, makes_tint, tint_was}
 
 -- ---- a row of octants
-
-pub row_has : (octants : Octants) (old : Option Name) (held : List Tree) (level : ℕ)
-    → MakesCells (MakesRow octants old) held level → HasBlock held level old
-row_has octants old held level (base, cells, keeps, m) =
-    old_has base held level m.tree old keeps m.is_old
 
 -- what is made of the octant that was read
 pub row_octant : (octants : Octants) (old child : Option Name) (base held : List Tree) (level : ℕ)
@@ -31,75 +26,48 @@ row_octant octants old child base held level cells k lt keeps m is =
     subst (λ (n : Option Name). octants k n base (level - 1) (octant_cells (level - 1) cells k))
     (is m.tree (old_block base held level m.tree old keeps m.is_old)).root (m.each k lt)
 
--- octants without a plane
-
-root_rest : {P T : Type 0} (task_of : P → ℕ → Option Name → T) (makes : T → Making) (planes : P)
-    (k : ℕ) (old : Option Name) (base : List Tree) (level : ℕ) (cells : Cells) → k ≢ 0 → k ≢ 1
-    → root_octants task_of makes planes k old base level cells → LeavesBlock old base level cells
-root_rest task_of makes planes zero old base level cells first second m = absurd (first refl)
-root_rest task_of makes planes (suc zero) old base level cells first second m = absurd (second refl)
-root_rest task_of makes planes (suc (suc k)) old base level cells first second m = m
-
-first_rest : {P T : Type 0} (task_of : P → ℕ → Option Name → T) (makes : T → Making)
-    (planes : P) (k : ℕ) (old : Option Name) (base : List Tree) (level : ℕ) (cells : Cells) → k ≢ 0
-    → first_octants task_of makes planes k old base level cells → LeavesBlock old base level cells
-first_rest task_of makes planes zero old base level cells first m = absurd (first refl)
-first_rest task_of makes planes (suc k) old base level cells first m = m
-
 -- what is made of each octant
 
 module _ {P T : Type 0} (task_of : P → ℕ → Option Name → T) (makes : T → Making) (planes : P)
-    (old child : Option Name) (base held : List Tree) (level : ℕ) (cells : Cells) (k : ℕ)
-    (lt : k < 8) (keeps : Keeps base held) (is : IsOctantOf held level old k child) where
-  pub root_first : k ≡ 0 → MakesRow (root_octants task_of makes planes) old base level cells
-      → MakesRow (first_octants task_of makes planes) child base (level - 1)
-      (octant_cells (level - 1) cells k)
-  root_first e m =
-      subst (λ (j : ℕ). root_octants task_of makes planes j child base (level - 1)
-      (octant_cells (level - 1) cells k)) e
-      (row_octant (root_octants task_of makes planes) old child base held level cells k lt keeps m is)
-
-  pub root_second : k ≡ 1 → MakesRow (root_octants task_of makes planes) old base level cells
-      → MakesRow (bit_octants task_of makes planes) child base (level - 1)
-      (octant_cells (level - 1) cells k)
-  root_second e m =
-      subst (λ (j : ℕ). root_octants task_of makes planes j child base (level - 1)
-      (octant_cells (level - 1) cells k)) e
-      (row_octant (root_octants task_of makes planes) old child base held level cells k lt keeps m is)
-
-  pub root_other : k ≢ 0 → k ≢ 1 → MakesRow (root_octants task_of makes planes) old base level cells
-      → LeavesBlock child base (level - 1) (octant_cells (level - 1) cells k)
-  root_other first second m =
-      root_rest task_of makes planes k child base (level - 1) (octant_cells (level - 1) cells k)
-      first second
-      (row_octant (root_octants task_of makes planes) old child base held level cells k lt keeps m is)
-
-  pub first_made : (task : T) → task ≡ task_of planes 0 child → k ≡ 0
+    (old : Option Name) (base : List Tree) (level : ℕ) (cells : Cells) (k : ℕ) where
+  pub root_first : k ≡ 0 → root_octants task_of makes planes k old base level cells
       → MakesRow (first_octants task_of makes planes) old base level cells
-      → makes task base (level - 1) (octant_cells (level - 1) cells k)
-  first_made task is_task e m =
-      subst (λ (t : T). makes t base (level - 1) (octant_cells (level - 1) cells k)) (sym is_task)
-      (subst (λ (j : ℕ). first_octants task_of makes planes j child base (level - 1)
-      (octant_cells (level - 1) cells k)) e
-      (row_octant (first_octants task_of makes planes) old child base held level cells k lt keeps m
-      is))
+  root_first e m = subst (λ (j : ℕ). root_octants task_of makes planes j old base level cells) e m
 
-  pub first_other : k ≢ 0 → MakesRow (first_octants task_of makes planes) old base level cells
-      → LeavesBlock child base (level - 1) (octant_cells (level - 1) cells k)
-  first_other first m =
-      first_rest task_of makes planes k child base (level - 1) (octant_cells (level - 1) cells k)
-      first
-      (row_octant (first_octants task_of makes planes) old child base held level cells k lt keeps m
-      is)
-
-  pub bit_made : (task : T) → task ≡ task_of planes (k + 1) child
+  pub root_second : k ≡ 1 → root_octants task_of makes planes k old base level cells
       → MakesRow (bit_octants task_of makes planes) old base level cells
-      → makes task base (level - 1) (octant_cells (level - 1) cells k)
+  root_second e m = subst (λ (j : ℕ). root_octants task_of makes planes j old base level cells) e m
+
+  pub first_made : (task : T) → task ≡ task_of planes 0 old → k ≡ 0
+      → first_octants task_of makes planes k old base level cells → makes task base level cells
+  first_made task is_task e m =
+      subst (λ (t : T). makes t base level cells) (sym is_task)
+      (subst (λ (j : ℕ). first_octants task_of makes planes j old base level cells) e m)
+
+  pub bit_made : (task : T) → task ≡ task_of planes (k + 1) old
+      → bit_octants task_of makes planes k old base level cells → makes task base level cells
   bit_made task is_task m =
       let up : k + 1 ≡ suc k = omega arith in
-      subst (λ (t : T). makes t base (level - 1) (octant_cells (level - 1) cells k))
-      (sym (is_task ∙ ap (λ (j : ℕ). task_of planes j child) up))
-      (row_octant (bit_octants task_of makes planes) old child base held level cells k lt keeps m is)
+      subst (λ (t : T). makes t base level cells)
+      (sym (is_task ∙ ap (λ (j : ℕ). task_of planes j old) up)) m
+
+-- octants without a plane
+
+pub root_other : {P T : Type 0} (task_of : P → ℕ → Option Name → T) (makes : T → Making)
+    (planes : P) (old : Option Name) (base : List Tree) (level : ℕ) (cells : Cells) (k : ℕ)
+    → k ≢ 0 → k ≢ 1 → root_octants task_of makes planes k old base level cells
+    → LeavesBlock old base level cells
+root_other task_of makes planes old base level cells zero first second m = absurd (first refl)
+root_other task_of makes planes old base level cells (suc zero) first second m =
+    absurd (second refl)
+root_other task_of makes planes old base level cells (suc (suc k)) first second m = m
+
+pub first_other : {P T : Type 0} (task_of : P → ℕ → Option Name → T) (makes : T → Making)
+    (planes : P) (old : Option Name) (base : List Tree) (level : ℕ) (cells : Cells) (k : ℕ)
+    → k ≢ 0 → first_octants task_of makes planes k old base level cells
+    → LeavesBlock old base level cells
+first_other task_of makes planes old base level cells zero first m = absurd (first refl)
+first_other task_of makes planes old base level cells (suc k) first m = m
 
 -- ---- blocks of which nothing changes
 
@@ -169,3 +137,10 @@ pub some_as : {P T : Type 0} (task_of : P → ℕ → Option Name → T) (makes 
     → MakesCells (makes_tint task_of makes b) held level
 some_as task_of makes a b held level e (base, cells, keeps, m) =
     (base, cells, keeps, makes_as task_of makes a b base level cells e m)
+
+-- the octant of the block that a task tells, under another name of the task
+pub octant_as : {P T : Type 0} (was : T → Option Name) (a b : TintTask P T) (held : List Tree)
+    (level k : ℕ) (child : Option Name) → a ≡ b → IsOctantOf held level (tint_was was a) k child
+    → IsOctantOf held level (tint_was was b) k child
+octant_as was a b held level k child e is =
+    subst (λ (u : TintTask _ _). IsOctantOf held level (tint_was was u) k child) e is

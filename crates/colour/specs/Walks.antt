@@ -62,6 +62,14 @@ makes_tint task_of makes (Bits old planes) = MakesRow (bit_octants task_of makes
 makes_tint task_of makes (Kept old) = LeavesBlock old
 makes_tint task_of makes (Plane task) = makes task
 
+-- the old block that each task tells
+abbrev pub tint_was : {P T : Type 0} → (T → Option Name) → TintTask P T → Option Name
+tint_was was (Root old planes) = old
+tint_was was (First old planes) = old
+tint_was was (Bits old planes) = old
+tint_was was (Kept old) = old
+tint_was was (Plane task) = was task
+
 -- ---- it stays so while more is held
 
 kept_lasts : (old : Option Name) (base more : List Tree) (level : ℕ) (cells : Cells)

@@ -19,9 +19,7 @@ use crate::stencils::TintStencil;
 use crate::walks::{Planes, rebuild_planes};
 use edit_stamp::StencilCover;
 use edit_walk::{Latest, Repeats, Task, Whole, old_whole};
-use node_words::{
-    Blocks, Full, Name, NodeStore, Share, Steps, leaf_bits, octant_name, same_cells, same_names,
-};
+use node_words::{Blocks, Full, Name, NodeStore, Share, Steps, leaf_bits, same_cells, same_names};
 use std::sync::ledger::Ledger;
 use vw_cell::{Block, Boxed, Cell, Side};
 
@@ -50,13 +48,20 @@ impl<'s> Task for InkTask<'s> {
 
     ghost mixed_in = { λ level t k. blocks_in (level - 1) };
 
+    ghost was = { λ t. t.old };
+
     fn old(&self) -> Option<Name> {
         self.old
     }
 
     #[inline(always)]
-    fn octant<B: Blocks>(&self, store: &mut B, level: u8, octant: u8) -> InkTask<'s> {
-        let old = octant_name(store, level, self.old, octant);
+    fn octant<B: Blocks>(
+        &self,
+        _store: &mut B,
+        level: u8,
+        octant: u8,
+        old: Option<Name>,
+    ) -> InkTask<'s> {
         let block = Block { level, at: self.at };
         let part = block.child(octant);
         InkTask {

@@ -1,14 +1,12 @@
-ghost use Rattle.std.specs.Prelude.{◌≡◌, ◌-◌, ◌<◌, ◌≤◌, ℕ, Option, option_copied};
+ghost use Rattle.std.specs.Prelude.{◌≡◌, ◌-◌, ◌<◌, ◌≤◌, ℕ, List, Option, option_copied};
 ghost use Rattle.node_words.specs.declared.shapes.names.Name.{Name};
 ghost use Rattle.edit_walk.specs.Edits.{MayEdit, Edits};
 ghost use Rattle.edit_walk.specs.Memos.{RecallsHeld};
-ghost use Rattle.node_words.specs.contents.CellShapes.{octant_cells};
-ghost use Rattle.edit_walk.specs.cells.Tasks.{MakesCells, ForCells};
-ghost use Rattle.colour.specs.Walks.{MakesRow, root_octants, first_octants, bit_octants, makes_tint, CellEdit, all_planes, MakesPlanes};
+ghost use Rattle.node_words.specs.shapes.Tree.{Tree};
+ghost use Rattle.node_words.specs.contents.CellShapes.{Cells};
+ghost use Rattle.colour.specs.Walks.{root_octants, first_octants, bit_octants, makes_tint, CellEdit, all_planes, MakesPlanes};
 
-use edit_walk::{
-    Memo, Repeats, Task, Whole, leaf_bits, name_of, octant_name, old_whole, rebuild_world,
-};
+use edit_walk::{Memo, Repeats, Task, Whole, leaf_bits, name_of, old_whole, rebuild_world};
 use node_words::{Blocks, Full, Name, NodeStore, Share, Steps};
 use std::sync::ledger::Ledger;
 use vw_cell::Side;
@@ -41,7 +39,7 @@ pub(crate) enum TintTask<P, T> {
 impl<P: Planes<T>, T: Task> Task for TintTask<P, T> {
     ghost use Rattle.edit_walk.specs.cells.Tasks.{blocks_in};
     ghost use Rattle.std.specs.Prelude.{◌-◌};
-    ghost use Rattle.colour.specs.Walks.{makes_tint, tint_lasts};
+    ghost use Rattle.colour.specs.Walks.{makes_tint, tint_lasts, tint_was};
 
     ghost makes = { makes_tint P.task_of T.makes };
 
@@ -50,6 +48,8 @@ impl<P: Planes<T>, T: Task> Task for TintTask<P, T> {
     ghost mixed = { λ level t. blocks_in level };
 
     ghost mixed_in = { λ level t k. blocks_in (level - 1) };
+
+    ghost was = { tint_was T.was };
 
     fn old(&self) -> Option<Name> {
         match self {
@@ -62,13 +62,19 @@ impl<P: Planes<T>, T: Task> Task for TintTask<P, T> {
     }
 
     #[inline(always)]
-    fn octant<B: Blocks>(&self, store: &mut B, level: u8, octant: u8) -> TintTask<P, T> {
+    fn octant<B: Blocks>(
+        &self,
+        store: &mut B,
+        level: u8,
+        octant: u8,
+        old: Option<Name>,
+    ) -> TintTask<P, T> {
         match self {
-            TintTask::Root(old, planes) => root_octant(store, level, *old, *planes, octant),
-            TintTask::Cells(old, planes) => first_octant(store, level, *old, *planes, octant),
-            TintTask::Bits(old, planes) => bit_octant(store, level, *old, *planes, octant),
-            TintTask::Kept(old) => TintTask::Kept(octant_name(store, level, *old, octant)),
-            TintTask::Plane(task) => TintTask::Plane(task.octant(store, level, octant)),
+            TintTask::Root(_, planes) => root_octant(*planes, octant, old),
+            TintTask::Cells(_, planes) => first_octant(*planes, octant, old),
+            TintTask::Bits(_, planes) => bit_octant(*planes, octant, old),
+            TintTask::Kept(_) => TintTask::Kept(old),
+            TintTask::Plane(task) => TintTask::Plane(task.octant(store, level, octant, old)),
         }
     }
 
@@ -94,82 +100,43 @@ impl<P: Planes<T>, T: Task> Task for TintTask<P, T> {
     }
 }
 
-// What is made of an octant of the root.
-fn root_octant<P: Planes<T>, T: Task, B: Blocks>(
-    store: &mut B,
-    level: u8,
-    old: Option<Name>,
-    planes: P,
-    octant: u8,
-) -> TintTask<P, T>
-    requires level { 1 ≤ level }
-    requires octant { octant < 8 }
-    requires task { MakesCells (MakesRow (root_octants P.task_of T.makes planes) old)
-        (B.seen store.old).held level }
-    ensures task { ForCells (MakesRow (root_octants P.task_of T.makes planes) old)
-        (B.seen store.old).held level
-        (λ base cells. makes_tint P.task_of T.makes result base (level - 1)
-        (octant_cells (level - 1) cells octant)) }
-    ensures seen { B.seen store.new ≡ B.seen store.old }
-    ensures rests { B.rests store.old store.new }
+// What is made of an octant of the root, of which this is the old block.
+fn root_octant<P: Planes<T>, T: Task>(planes: P, octant: u8, old: Option<Name>) -> TintTask<P, T>
+    requires { octant < 8 }
+    ensures { (base : List Tree) (level : ℕ) (cells : Cells)
+        → root_octants P.task_of T.makes planes octant old base level cells
+        → makes_tint P.task_of T.makes result base level cells }
 {
-    let part = octant_name(store, level, old, octant);
     if octant == 0 {
-        return TintTask::Cells(part, planes);
+        return TintTask::Cells(old, planes);
     }
     if octant == 1 {
-        return TintTask::Bits(part, planes);
+        return TintTask::Bits(old, planes);
     }
-    TintTask::Kept(part)
+    TintTask::Kept(old)
 }
 
 // The same of octant 0 of the root.
-fn first_octant<P: Planes<T>, T: Task, B: Blocks>(
-    store: &mut B,
-    level: u8,
-    old: Option<Name>,
-    planes: P,
-    octant: u8,
-) -> TintTask<P, T>
-    requires level { 1 ≤ level }
-    requires octant { octant < 8 }
-    requires task { MakesCells (MakesRow (first_octants P.task_of T.makes planes) old)
-        (B.seen store.old).held level }
-    ensures task { ForCells (MakesRow (first_octants P.task_of T.makes planes) old)
-        (B.seen store.old).held level
-        (λ base cells. makes_tint P.task_of T.makes result base (level - 1)
-        (octant_cells (level - 1) cells octant)) }
-    ensures seen { B.seen store.new ≡ B.seen store.old }
-    ensures rests { B.rests store.old store.new }
+fn first_octant<P: Planes<T>, T: Task>(planes: P, octant: u8, old: Option<Name>) -> TintTask<P, T>
+    requires { octant < 8 }
+    ensures { (base : List Tree) (level : ℕ) (cells : Cells)
+        → first_octants P.task_of T.makes planes octant old base level cells
+        → makes_tint P.task_of T.makes result base level cells }
 {
-    let part = octant_name(store, level, old, octant);
     if octant == 0 {
-        return TintTask::Plane(planes.task(0, part));
+        return TintTask::Plane(planes.task(0, old));
     }
-    TintTask::Kept(part)
+    TintTask::Kept(old)
 }
 
 // The same of octant 1 of the root.
-fn bit_octant<P: Planes<T>, T: Task, B: Blocks>(
-    store: &mut B,
-    level: u8,
-    old: Option<Name>,
-    planes: P,
-    octant: u8,
-) -> TintTask<P, T>
-    requires level { 1 ≤ level }
-    requires octant { octant < 8 }
-    requires task { MakesCells (MakesRow (bit_octants P.task_of T.makes planes) old)
-        (B.seen store.old).held level }
-    ensures task { ForCells (MakesRow (bit_octants P.task_of T.makes planes) old)
-        (B.seen store.old).held level
-        (λ base cells. makes_tint P.task_of T.makes result base (level - 1)
-        (octant_cells (level - 1) cells octant)) }
-    ensures seen { B.seen store.new ≡ B.seen store.old }
-    ensures rests { B.rests store.old store.new }
+fn bit_octant<P: Planes<T>, T: Task>(planes: P, octant: u8, old: Option<Name>) -> TintTask<P, T>
+    requires { octant < 8 }
+    ensures { (base : List Tree) (level : ℕ) (cells : Cells)
+        → bit_octants P.task_of T.makes planes octant old base level cells
+        → makes_tint P.task_of T.makes result base level cells }
 {
-    let part = octant_name(store, level, old, octant);
-    TintTask::Plane(planes.task(octant + 1, part))
+    TintTask::Plane(planes.task(octant + 1, old))
 }
 
 impl<P: Planes<T>, T: Repeats> Repeats for TintTask<P, T> {

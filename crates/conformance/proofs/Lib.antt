@@ -1,5 +1,6 @@
 pub mod GoingOn
 pub mod Lists
+pub mod Pushed
 pub mod Running
 pub mod LineKinds
 pub mod Refusals

@@ -1,10 +1,10 @@
 -- What each kind of answer makes of a history.
-use Rattle.std.proofs.Common.{◌≡◌, ℕ, zero, suc, ◌+◌, ◌-◌, ◌^◌, ◌<◌, ◌≤◌, ◌⊎◌, Bool, true, false, List, [], ◌∷◌, ◌++◌, length, get_or, Option, Some, refl, ap, sym, subst, ◌∙◌, inl, inr, arith, length-append, append-nil}
-use Rattle.std.specs.Prelude.{All, sum_by}
+use Rattle.std.proofs.Common.{◌≡◌, ◌≢◌, ℕ, zero, suc, ◌+◌, ◌-◌, ◌^◌, ◌<◌, ◌≤◌, ◌⊎◌, Bool, true, false, List, [], ◌∷◌, ◌++◌, length, get_or, Option, Some, None, eq-eqb, refl, ap, sym, subst, ◌∙◌, inl, inr, arith, length-append, append-nil}
+use Rattle.std.specs.Prelude.{All, sum_by, ◌==◌}
 use Rattle.std.specs.List.{slice_get, Contains}
 use Rattle.std.proofs.lemmas.Bool.{false≢true}
 use Rattle.std.proofs.lemmas.List.{take_all}
-use Rattle.std.proofs.lemmas.List.Elements.{All-nil, All-cons, All-append, All-contains, All-contains_itself, All-map, Contains-append_right}
+use Rattle.std.proofs.lemmas.List.Elements.{All-nil, All-cons, All-weaker, All-append, All-contains, All-contains_itself, All-map, Contains-append_right}
 use Rattle.std.proofs.lemmas.List.Sums.{sum_by-append, sum_by-cons, sum_by_push}
 use Rattle.history_model.specs.Contents.{Content}
 use Rattle.history_model.specs.declared.acts.Act.{Act}
@@ -16,6 +16,7 @@ use Rattle.history_model.specs.Positions.{position_after, first_of}
 use Rattle.history_model.specs.Logs.{Log, IsLegal, suits_tints, side_of_world, world_side}
 use Rattle.history_model.specs.Tints.{Tints, SameTints}
 use Rattle.node_words.specs.Plans.{Layout}
+use Rattle.retain.specs.Retained.{AreRising, falls_out, fallen_by, unnamed_by}
 use Rattle.conformance.specs.Versions.{HoldsVersion, InsertsMark}
 use Rattle.script.specs.declared.commands.Command.{Command}
 use Rattle.script.specs.declared.commands.Command.TheVariants.{Edit, Forget, Ask, Save, Same, Head}
@@ -23,11 +24,13 @@ use Rattle.script.specs.declared.commands.ScriptLine.{ScriptLine}
 use Rattle.transcript.specs.declared.answers.Answer.{Answer}
 use Rattle.transcript.specs.declared.answers.Answer.TheVariants as answers
 use Rattle.transcript.specs.declared.answers.LineAnswer.{LineAnswer}
-use Rattle.conformance.specs.Answers.{IsUnforgotten, IsForgotten, IsReadable, mark_of, target_at, HasReadableTarget, Answers, done, forgot, ExtendsLog}
-use Rattle.conformance.specs.Shown.{Accepted, numbered, is_done, accepted_by, forgotten_by}
-use Rattle.conformance.specs.Running.{line_numbers, IsBy, IsSoFar, IsOldOrNew, LineStep, GrowsByRecord, ForgetsBy}
+use Rattle.conformance.specs.Answers.{IsRecordOf, IsUnforgotten, IsForgotten, IsReadable, mark_of, target_at, HasReadableTarget, Answers, done, forgot, ExtendsLog}
+use Rattle.conformance.specs.Shown.{Accepted, SameItems, numbered, is_done, accepted_by, forgotten_by}
+use Rattle.conformance.specs.Running.{line_numbers, IsBy, IsSoFar, IsOldOrNew, LineStep, GrowsByRecord, ForgetsBy, PushesOut, pushed_by}
 use Rattle.conformance.specs.Kinds.{is_resting, answer_at, IsAfter}
-use Rattle.conformance.proofs.Lists.{same_nothing, same_of}
+use Rattle.conformance.proofs.Lists.{same_nothing, same_nothings, same_of}
+use Rattle.conformance.proofs.Pushed.{named_alone, none_named, one_pushed, unnamed_alone, unnamed_of}
+use Rattle.conformance.proofs.OfSessions.Fallen.{any_there}
 
 -- a history goes on from itself
 pub goes_nowhere : (log : Log) → ExtendsLog log log
@@ -95,12 +98,42 @@ resting_forgets session line n answers.NothingToRedo rests = refl
 resting_forgets session line n answers.LogFull rests = refl
 resting_forgets session line n (answers.Stale b) rests = refl
 
-pub resting_line : (p : Layout) (models : List Content) (session : ℕ) (l : ScriptLine) (log : Log)
+-- an accepted change is later than all before it, and forgets nothing by hand
+done_is : (answer : Answer) → is_done answer ≡ true → answer ≡ answers.Done
+done_is answers.Done e = refl
+done_is _ e = absurd (false≢true e)
+
+pub accepted_later : (count session line : ℕ) (command : Command) (n : ℕ) (answer : Answer)
+    → (answer ≡ answers.Done → count < n)
+    → All (λ c. count < c.at) (accepted_by session line command n answer)
+accepted_later count session line (Edit act once) n answer later = go (is_done answer) refl
+  where
+    go : (b : Bool) → is_done answer ≡ b
+        → All (λ c. count < c.at) (accepted_by session line (Edit act once) n answer)
+    go true e = rw e (All-cons (λ (c : Accepted). count < c.at)
+        (record { at = n; entry = record { session = session; line = line; act = act } }) []
+        (later (done_is answer e)) (All-nil (λ c. count < c.at)))
+    go false e = rw e (All-nil (λ (c : Accepted). count < c.at))
+accepted_later count session line _ n answer later = All-nil (λ c. count < c.at)
+
+pub by_hand_or_not : (session line : ℕ) (command : Command) (n : ℕ) (answer : Answer)
+    → (forgotten_by session line n answer ≡ []) ⊎ (accepted_by session line command n answer ≡ [])
+by_hand_or_not session line command n (answers.Forgot v) =
+    inr (resting_accepts session line command n (answers.Forgot v) refl)
+by_hand_or_not session line command n _ = inl refl
+
+-- nothing is pushed out by what isn't accepted
+none_pushed_by : (keep : ℕ) (marks : List Mark) (accepted : List Accepted) → accepted ≡ []
+    → unnamed_by marks (pushed_by 0 keep accepted) ≡ []
+none_pushed_by keep marks accepted none =
+    ap (λ (cs : List Accepted). unnamed_by marks (pushed_by 0 keep cs)) none
+
+pub resting_line : (keep : ℕ) (p : Layout) (models : List Content) (session : ℕ) (l : ScriptLine) (log : Log)
     (answer : Answer) → IsLegal (2 ^ p.side) models log → is_resting answer ≡ true
     → Answers p models log (IsUnforgotten log.marks session l.line (length log.records)) session l.line
     (length log.records) l.command answer
-    → LineStep p models session l log log (answer_at l (length log.records) answer)
-resting_line p models session l log answer legal rests fits = record {
+    → LineStep keep p models session l log log (answer_at l (length log.records) answer)
+resting_line keep p models session l log answer legal rests fits = record {
   legal = legal;
   suits = λ suits. suits;
   goes_on = goes_nowhere log;
@@ -109,12 +142,20 @@ resting_line p models session l log answer legal rests fits = record {
   later = λ e. absurd (false≢true (sym (ap is_resting e) ∙ rests));
   unseen = λ base e. absurd (false≢true (sym (ap is_resting e) ∙ rests));
   fits = record { same_line = refl; within = omega arith; answers = fits };
-  records = same_nothing (numbered 1 log.records) _
-      (resting_accepts session l.line l.command (length log.records) answer
-      (resting_not_done answer rests));
-  marks = same_nothing log.marks _
-      (resting_forgets session l.line (length log.records) answer rests);
+  records = same_nothing (numbered 1 log.records) _ accepts;
+  unmarked = subst (λ (ms : List Mark). All (λ m. All (λ o. o.version ≢ m.version) log.marks) ms)
+      (sym forgets) (All-nil (λ m. All (λ o. o.version ≢ m.version) log.marks));
+  marks = same_nothings log.marks _ _ forgets
+      (none_pushed_by keep log.marks
+      (accepted_by session l.line l.command (length log.records) answer) accepts);
 }
+  where
+    accepts : accepted_by session l.line l.command (length log.records) answer ≡ []
+    accepts = resting_accepts session l.line l.command (length log.records) answer
+        (resting_not_done answer rests)
+
+    forgets : forgotten_by session l.line (length log.records) answer ≡ []
+    forgets = resting_forgets session l.line (length log.records) answer rests
 
 -- ---- an accepted change
 
@@ -143,7 +184,7 @@ with_record log r =
 done_step : (p : Layout) (models : List Content) (session line : ℕ) (act : Act) (once : Bool)
     (log : Log) → IsLegal (2 ^ p.side) models (with_record log (record_of session line act))
     → suits_tints log.coloured act ≡ true
-    → LineStep p models session (record { line = line; command = Edit act once }) log
+    → LineStep 0 p models session (record { line = line; command = Edit act once }) log
     (with_record log (record_of session line act))
     (record { line = line; at = length log.records + 1; answer = answers.Done })
 unfolding with_record record_of
@@ -178,7 +219,10 @@ done_step p models session line act once log legal suits =
       records = same_of _ _
           (numbered_push 1 log.records r
           ∙ ap (λ (k : ℕ). numbered 1 log.records ++ record { at = k; entry = r } ∷ []) number);
-      marks = same_nothing log.marks [] refl;
+      unmarked = All-nil (λ m. All (λ o. o.version ≢ m.version) log.marks);
+      marks = same_nothings log.marks [] _ refl
+          (none_named log.marks
+          (record { at = length log.records + 1; entry = r } ∷ []));
     }
 
 log_of : ℕ → Bool → List Record → List Mark → Log
@@ -197,12 +241,12 @@ grown p models r old new g =
 pub done_line : (p : Layout) (models : List Content) (session line : ℕ) (act : Act) (once : Bool)
     (old new : Log)
     → GrowsByRecord p models (record { session = session; line = line; act = act }) old new
-    → LineStep p models session (record { line = line; command = Edit act once }) old new
+    → LineStep 0 p models session (record { line = line; command = Edit act once }) old new
     (record { line = line; at = length old.records + 1; answer = answers.Done })
 unfolding record_of
 done_line p models session line act once old new g =
     let same = grown p models (record_of session line act) old new g in
-    subst (λ (log : Log). LineStep p models session
+    subst (λ (log : Log). LineStep 0 p models session
     (record { line = line; command = Edit act once }) old log
     (record { line = line; at = length old.records + 1; answer = answers.Done })) same
     (done_step p models session line act once old
@@ -256,12 +300,41 @@ old_or_new old n mark new m at =
     (λ k d lt. inl (All-contains_itself old k d lt)))
     (inr (omega arith, refl, refl)))
 
-pub forgot_line : (p : Layout) (models : List Content) (mark : Mark) (old new : Log)
+-- it had no mark
+above : (x z : Mark) (xs : List Mark) → AreRising (x ∷ xs) → Contains xs z → x.version < z.version
+above x z xs rising (k, lt, e) =
+    let less : x.version < (get_or xs k z).version =
+    rising 0 (suc k) z (omega arith) (omega arith) in
+    subst (λ (y : Mark). x.version < y.version) e less
+
+rises_on : (x : Mark) (xs : List Mark) → AreRising (x ∷ xs) → AreRising xs
+rises_on x xs rising i j d low high = rising (suc i) (suc j) d (omega arith) (omega arith)
+
+apart_of : (xs ys : List Mark) (m : Mark) → AreRising (xs ++ m ∷ ys)
+    → All (λ o. o.version ≢ m.version) (xs ++ ys)
+apart_of [] ys m rising = λ k d lt same. (
+    let high : m.version < (get_or ys k d).version =
+    rising 0 (suc k) d (omega arith) (omega arith) in omega (arith, high, same))
+apart_of (x ∷ xs) ys m rising =
+    let low : x.version < m.version =
+    above x m (xs ++ m ∷ ys) rising
+    (Contains-append_right xs (m ∷ ys) m (0, omega arith, refl)) in
+    All-cons (λ (o : Mark). o.version ≢ m.version) x (xs ++ ys)
+    (λ same. omega (arith, low, same))
+    (apart_of xs ys m (rises_on x (xs ++ m ∷ ys) rising))
+
+inserted_new : (old : List Mark) (mark : Mark) (new : List Mark) → InsertsMark old mark new
+    → AreRising new → All (λ o. o.version ≢ mark.version) old
+inserted_new old mark new m rising =
+    subst (λ (xs : List Mark). All (λ o. o.version ≢ mark.version) xs) (sym m.was)
+    (apart_of m.before m.after mark (subst (λ (xs : List Mark). AreRising xs) m.is rising))
+
+pub forgot_line : (keep : ℕ) (p : Layout) (models : List Content) (mark : Mark) (old new : Log)
     → ForgetsBy p models mark old new
-    → LineStep p models mark.session
+    → LineStep keep p models mark.session
     (record { line = mark.line; command = Forget mark.version }) old new
     (record { line = mark.line; at = length old.records; answer = answers.Forgot mark.version })
-forgot_line p models mark old new e =
+forgot_line keep p models mark old new e =
     let n : ℕ = length old.records in
     let same_number : length new.records ≡ n = ap length e.records in
     let same_mark : mark ≡ mark_of mark.version n mark.session mark.line =
@@ -302,14 +375,230 @@ forgot_line p models mark old new e =
             (numbered 1 old.records) [] in let none : sum_by f []
             ≡ 0 = refl in omega arith);
       };
+      unmarked =
+          All-cons (λ (m : Mark). All (λ o. o.version ≢ m.version) old.marks)
+          (mark_of mark.version n mark.session mark.line) []
+          (inserted_new old.marks mark new.marks e.marks e.legal.rising)
+          (All-nil (λ m. All (λ o. o.version ≢ m.version) old.marks));
       marks = record {
         weighs = λ f. (
             let a = marks_weigh f old.marks mark new.marks e.marks in
             let b = sum_by_push f old.marks (mark_of mark.version n mark.session mark.line) in
+            let c =
+            sum_by-append f (old.marks ++ mark_of mark.version n mark.session mark.line ∷ []) [] in
+            let none : sum_by f [] ≡ 0 = refl in
             let g : f mark ≡ f (mark_of mark.version n mark.session mark.line) = ap f same_mark in
             omega arith);
       };
     }
+
+-- ---- what a change pushes out
+
+-- a line that accepts nothing pushes nothing out
+pub other_line : (keep : ℕ) (p : Layout) (models : List Content) (session : ℕ) (l : ScriptLine)
+    (old new : Log) (a : LineAnswer)
+    → accepted_by session l.line l.command a.at a.answer ≡ []
+    → LineStep 0 p models session l old new a → LineStep keep p models session l old new a
+other_line keep p models session l old new a none step =
+    let accepted : List Accepted = accepted_by session l.line l.command a.at a.answer in
+    let by_hand : List Mark = forgotten_by session l.line a.at a.answer in
+    record {
+      legal = step.legal;
+      suits = step.suits;
+      goes_on = step.goes_on;
+      new_marks = step.new_marks;
+      no_earlier = step.no_earlier;
+      later = step.later;
+      unseen = step.unseen;
+      fits = step.fits;
+      records = step.records;
+      unmarked = step.unmarked;
+      marks = subst (λ (ms : List Mark). SameItems new.marks (old.marks ++ by_hand ++ ms))
+          (none_pushed_by 0 old.marks accepted none
+          ∙ sym (none_pushed_by keep old.marks accepted none)) step.marks;
+    }
+
+module _ (keep : ℕ) (p : Layout) (models : List Content) (session line : ℕ) (act : Act)
+    (once : Bool) (old mid : Log)
+    (step : LineStep 0 p models session (record { line = line; command = Edit act once }) old mid
+    (record { line = line; at = length mid.records; answer = answers.Done }))
+    (records : mid.records ≡ old.records ++ record { session = session; line = line; act = act } ∷ [])
+    (marks : mid.marks ≡ old.marks) where
+  r : Record
+  r = record { session = session; line = line; act = act }
+
+  longer : length mid.records ≡ length old.records + 1
+  unfolding r
+  longer = ap length records ∙ length-append old.records (r ∷ [])
+
+  c : Accepted
+  c = record { at = length mid.records; entry = r }
+
+  none_out : unnamed_by old.marks (pushed_by 0 keep (c ∷ [])) ≡ []
+      → LineStep keep p models session (record { line = line; command = Edit act once }) old mid
+      (record { line = line; at = length mid.records; answer = answers.Done })
+  unfolding c r
+  none_out none = record {
+    legal = step.legal;
+    suits = step.suits;
+    goes_on = step.goes_on;
+    new_marks = step.new_marks;
+    no_earlier = step.no_earlier;
+    later = step.later;
+    unseen = step.unseen;
+    fits = step.fits;
+    records = step.records;
+    unmarked = step.unmarked;
+    marks = subst (λ (ms : List Mark). SameItems ms
+        (old.marks ++ [] ++ unnamed_by old.marks (pushed_by 0 keep (c ∷ []))))
+        (sym marks) (same_nothings old.marks [] _ refl none);
+  }
+
+  pushed_as : (o : Option ℕ) → falls_out (length mid.records) keep ≡ o
+      → pushed_by 0 keep (c ∷ []) ≡ fallen_by (length mid.records) r o
+  unfolding c
+  pushed_as o falls =
+      one_pushed keep (record { at = length mid.records; entry = r }) o
+      (let l = longer in omega (arith, l)) falls
+
+  was_marked : (mark : Mark) → falls_out (length mid.records) keep ≡ Some mark.version
+      → Contains mid.marks mark → unnamed_by old.marks (pushed_by 0 keep (c ∷ [])) ≡ []
+  unfolding r
+  was_marked mark falls listed =
+      let m : Mark = mark_of mark.version (length mid.records) session line in
+      let there : Contains old.marks mark =
+      subst (λ (ms : List Mark). Contains ms mark) marks listed in
+      ap (λ (ms : List Mark). unnamed_by old.marks ms) (pushed_as (Some mark.version) falls)
+      ∙ named_alone old.marks m
+      (any_there (λ (o : Mark). o.version == mark.version) old.marks mark there
+      (eq-eqb mark.version mark.version refl))
+
+  module _ (new : Log) (version : ℕ)
+      (falls : falls_out (length mid.records) keep ≡ Some version)
+      (e : ForgetsBy p models (mark_of version (length mid.records) session line) mid new) where
+    mark : Mark
+    mark = mark_of version (length mid.records) session line
+
+    all_records : new.records ≡ old.records ++ r ∷ []
+    unfolding r
+    all_records = e.records ∙ records
+
+    one_out : unnamed_by old.marks (pushed_by 0 keep (c ∷ [])) ≡ mark ∷ []
+    unfolding mark r
+    one_out =
+        ap (λ (ms : List Mark). unnamed_by old.marks ms) (pushed_as (Some version) falls)
+        ∙ unnamed_alone old.marks (mark_of version (length mid.records) session line)
+        (unnamed_of old.marks version
+        (subst (λ (ms : List Mark). All (λ o. o.version ≢ version) ms) marks
+        (inserted_new mid.marks (mark_of version (length mid.records) session line) new.marks
+        e.marks e.legal.rising)))
+
+    goes : ExtendsLog old new
+    goes = record {
+      side = e.side ∙ step.goes_on.side;
+      coloured = e.coloured ∙ step.goes_on.coloured;
+      more = step.goes_on.more;
+      records = e.records ∙ step.goes_on.records;
+      marks = subst (λ (ms : List Mark). All (Contains new.marks) ms) marks
+          (old_listed mid.marks (mark_of version (length mid.records) session line) new.marks
+          e.marks);
+    }
+
+    of_line : All (IsOldOrNew old.marks (length old.records) session line) new.marks
+    of_line =
+        All-weaker (IsOldOrNew mid.marks (length mid.records) session line)
+        (IsOldOrNew old.marks (length old.records) session line)
+        (λ m which. elim which [
+          | inl was ↦ inl (subst (λ (ms : List Mark). Contains ms m) marks was)
+          | inr made ↦ (let l = longer in let at = made.0 in inr (omega arith, made.1, made.2))
+        ]) new.marks
+        (old_or_new mid.marks (length mid.records)
+        (mark_of version (length mid.records) session line) new.marks e.marks refl)
+
+    is_record : IsRecordOf new.records (length mid.records) session line act
+    unfolding r
+    is_record =
+        let place : length old.records ≡ length mid.records - 1 = (let l = longer in omega arith) in
+        record {
+          first = (let l = longer in omega arith);
+          is = subst (λ (rs : List Record). slice_get rs (length mid.records - 1) ≡ Some r)
+              (sym all_records)
+              (subst (λ (n : ℕ). slice_get (old.records ++ r ∷ []) n ≡ Some r) place
+              (get_last old.records r));
+        }
+
+    sums : SameItems new.marks
+        (old.marks ++ [] ++ unnamed_by old.marks (pushed_by 0 keep (c ∷ [])))
+    unfolding mark
+    sums =
+        subst (λ (ms : List Mark). SameItems new.marks (old.marks ++ [] ++ ms)) (sym one_out)
+        (record {
+          weighs = λ f. (
+              let m : Mark = mark_of version (length mid.records) session line in
+              let a = marks_weigh f mid.marks m new.marks e.marks in
+              let b : sum_by f mid.marks ≡ sum_by f old.marks = ap (sum_by f) marks in
+              let d = sum_by-append f (old.marks ++ []) (m ∷ []) in
+              let g = sum_by-append f old.marks [] in
+              let h = sum_by-cons f m [] in
+              let none : sum_by f [] ≡ 0 = refl in
+              omega arith);
+        })
+
+    pub mark_out : LineStep keep p models session (record { line = line; command = Edit act once })
+        old new (record { line = line; at = length mid.records; answer = answers.Done })
+    unfolding c r
+    mark_out = record {
+      legal = e.legal;
+      suits = λ all. subst
+          (λ (b : Bool). All (λ (s : Record). suits_tints b s.act ≡ true) new.records)
+          (sym e.coloured)
+          (subst (λ (rs : List Record). All
+          (λ (s : Record). suits_tints mid.coloured s.act ≡ true) rs)
+          (sym e.records) (step.suits all));
+      goes_on = goes;
+      new_marks = of_line;
+      no_earlier = step.no_earlier;
+      later = step.later;
+      unseen = step.unseen;
+      fits = record {
+        same_line = refl;
+        within = (let same : length new.records ≡ length mid.records = ap length e.records in
+            omega arith);
+        answers = done act once is_record;
+      };
+      records = record {
+        weighs = λ f. ap (λ (rs : List Record). sum_by f (numbered 1 rs)) e.records
+            ∙ step.records.weighs f;
+      };
+      unmarked = step.unmarked;
+      marks = sums;
+    }
+
+  pub pushes_line : (new : Log) → PushesOut keep p models session line mid new
+      → LineStep keep p models session (record { line = line; command = Edit act once }) old new
+      (record { line = line; at = length mid.records; answer = answers.Done })
+  pushes_line new (PushesOut.none _ falls same) =
+      subst (λ (log : Log). LineStep keep p models session
+      (record { line = line; command = Edit act once }) old log
+      (record { line = line; at = length mid.records; answer = answers.Done })) (sym same)
+      (none_out (ap (λ (ms : List Mark). unnamed_by old.marks ms) (pushed_as None falls)))
+  pushes_line new (PushesOut.marked _ mark falls listed same) =
+      subst (λ (log : Log). LineStep keep p models session
+      (record { line = line; command = Edit act once }) old log
+      (record { line = line; at = length mid.records; answer = answers.Done })) (sym same)
+      (none_out (was_marked mark falls listed))
+  pushes_line new (PushesOut.forgot _ version falls e) = mark_out new version falls e
+
+pub pushed_line : (keep : ℕ) (p : Layout) (models : List Content) (session line : ℕ) (act : Act)
+    (once : Bool) (old mid new : Log)
+    → LineStep 0 p models session (record { line = line; command = Edit act once }) old mid
+    (record { line = line; at = length mid.records; answer = answers.Done })
+    → mid.records ≡ old.records ++ record { session = session; line = line; act = act } ∷ []
+    → mid.marks ≡ old.marks → PushesOut keep p models session line mid new
+    → LineStep keep p models session (record { line = line; command = Edit act once }) old new
+    (record { line = line; at = length mid.records; answer = answers.Done })
+pushed_line keep p models session line act once old mid new step records marks out =
+    pushes_line keep p models session line act once old mid step records marks new out
 
 -- ---- what stands behind the answers that change nothing
 
@@ -326,13 +615,14 @@ kept_readable log session line v kept = record {
 }
 
 -- a mark of the run so far forgets its version for the next line
-pub marked_forgotten : (p : Layout) (models : List Content) (scripts : List (List ScriptLine))
-    (transcripts : List (List LineAnswer)) (script : List ScriptLine) (transcript : List LineAnswer)
+pub marked_forgotten : (since keep : ℕ) (p : Layout) (models : List Content)
+    (scripts : List (List ScriptLine)) (transcripts : List (List LineAnswer))
+    (script : List ScriptLine) (transcript : List LineAnswer)
     (l : ScriptLine) (log : Log) (mark : Mark)
-    → IsSoFar p models scripts transcripts script transcript log → IsAfter script l
+    → IsSoFar since keep p models scripts transcripts script transcript log → IsAfter script l
     → Contains log.marks mark
     → IsForgotten log.marks (length scripts) l.line (length log.records) mark.version
-marked_forgotten p models scripts transcripts script transcript l log mark s rising listed =
+marked_forgotten since keep p models scripts transcripts script transcript l log mark s rising listed =
     record {
       mark = mark;
       listed = listed;

@@ -1,5 +1,5 @@
 -- One more line of a run of scripts, and the next script.
-use Rattle.std.proofs.Common.{◌≡◌, ◌≢◌, ℕ, ◌+◌, ◌^◌, ◌<◌, ◌≤◌, ◌⊎◌, List, [], ◌∷◌, ◌++◌, length, get_or, refl, ap, sym, subst, ◌∙◌, inl, inr, arith, length-append, Bool}
+use Rattle.std.proofs.Common.{◌≡◌, ◌≢◌, ℕ, ◌+◌, ◌^◌, ◌<◌, ◌≤◌, ◌⊎◌, List, [], ◌∷◌, ◌++◌, length, get_or, refl, ap, sym, subst, ◌∙◌, inl, inr, arith, length-append, append-nil, append_assoc, Bool}
 use Rattle.std.specs.Prelude.{All, sum_by}
 use Rattle.std.specs.List.{AllZip, Contains}
 use Rattle.std.proofs.lemmas.List.{length_push}
@@ -13,11 +13,13 @@ use Rattle.node_words.specs.Plans.{Layout}
 use Rattle.script.specs.declared.commands.ScriptLine.{ScriptLine}
 use Rattle.transcript.specs.declared.answers.LineAnswer.{LineAnswer}
 use Rattle.conformance.specs.Answers.{IsUnforgotten, LineFits, ExtendsLog}
-use Rattle.conformance.specs.Shown.{Accepted, numbered, accepted_by, forgotten_by, accepted_in, forgotten_in, accepted_of, forgotten_of}
-use Rattle.conformance.specs.Agreeing.{InOrder, SessionAgrees, SessionsAgree, Agrees}
-use Rattle.conformance.specs.Running.{line_numbers, IsBy, IsSoFar, LineStep}
+use Rattle.conformance.specs.Shown.{Accepted, SameItems, numbered, accepted_by, forgotten_by, accepted_in, forgotten_in, accepted_of, forgotten_of}
+use Rattle.conformance.specs.Agreeing.{InOrder, SessionAgrees, SessionsAgree, AgreesKeeping}
+use Rattle.conformance.specs.Running.{line_numbers, IsBy, IsSoFar, LineStep, with_pushed}
 use Rattle.conformance.proofs.GoingOn.{answers_stay}
 use Rattle.conformance.proofs.Lists.{zip_push, zip_map, pairs_nil, pairs_push, same_more, same_joined, same_itself}
+use Rattle.conformance.proofs.Pushed.{all_low, marks_step, none_pushed, pushes_from_here, with_all}
+use Rattle.conformance.proofs.LineKinds.{accepted_later, by_hand_or_not}
 
 pub lines_push : (script : List ScriptLine) (l : ScriptLine)
     → line_numbers (script ++ l ∷ []) ≡ line_numbers script ++ l.line ∷ []
@@ -81,6 +83,21 @@ forgotten_push R f session (k ∷ script) (b ∷ transcript) l a all =
     (forgotten_in session script transcript) in
     omega arith
 
+-- the forgettings themselves, in order
+forgotten_more : (R : ScriptLine → LineAnswer → Type 0) (session : ℕ)
+    (script : List ScriptLine) (transcript : List LineAnswer) (l : ScriptLine) (a : LineAnswer)
+    → AllZip R script transcript
+    → forgotten_in session (script ++ l ∷ []) (transcript ++ a ∷ [])
+    ≡ forgotten_in session script transcript ++ forgotten_by session l.line a.at a.answer
+forgotten_more R session [] [] l a all = append-nil (forgotten_by session l.line a.at a.answer)
+forgotten_more R session [] (b ∷ transcript) l a all = absurd all
+forgotten_more R session (k ∷ script) [] l a all = absurd all
+forgotten_more R session (k ∷ script) (b ∷ transcript) l a all =
+    ap (λ (ms : List Mark). forgotten_by session k.line b.at b.answer ++ ms)
+    (forgotten_more R session script transcript l a all.1)
+    ∙ sym (append_assoc (forgotten_by session k.line b.at b.answer)
+    (forgotten_in session script transcript) (forgotten_by session l.line a.at a.answer))
+
 -- and one more session to what all show
 accepted_next : (p : Layout) (models : List Content) (log : Log) (f : Accepted → ℕ) (session : ℕ)
     (scripts : List (List ScriptLine)) (transcripts : List (List LineAnswer))
@@ -111,39 +128,30 @@ accepted_next p models log f session (s ∷ scripts)
     sum_by-append f (accepted_in session s t) (accepted_of (session + 1) scripts transcripts) in
     omega arith
 
-forgotten_next : (p : Layout) (models : List Content) (log : Log) (f : Mark → ℕ) (session : ℕ)
+forgotten_next : (p : Layout) (models : List Content) (log : Log) (session : ℕ)
     (scripts : List (List ScriptLine)) (transcripts : List (List LineAnswer))
     (script : List ScriptLine) (transcript : List LineAnswer)
     → SessionsAgree p models log session scripts transcripts → (k : ℕ)
     → k ≡ session + length scripts
-    → sum_by f
-    (forgotten_of session (scripts ++ script ∷ []) (transcripts ++ transcript ∷ [])) ≡ sum_by f
-    (forgotten_of session scripts transcripts) + sum_by f (forgotten_in k script transcript)
-forgotten_next p models log f session [] [] script transcript all k number =
-    let both = sum_by-append f (forgotten_in session script transcript) [] in
-    let none : sum_by f [] ≡ 0 = refl in
+    → forgotten_of session (scripts ++ script ∷ []) (transcripts ++ transcript ∷ [])
+    ≡ forgotten_of session scripts transcripts ++ forgotten_in k script transcript
+forgotten_next p models log session [] [] script transcript all k number =
     let at : session ≡ k = omega arith in
-    let same : sum_by f (forgotten_in session script transcript) ≡ sum_by f (forgotten_in k script transcript) = ap (λ (j : ℕ). sum_by f (forgotten_in j script transcript)) at in
-    omega arith
-forgotten_next p models log f session [] (t ∷ transcripts) script transcript all k number =
+    append-nil (forgotten_in session script transcript)
+    ∙ ap (λ (j : ℕ). forgotten_in j script transcript) at
+forgotten_next p models log session [] (t ∷ transcripts) script transcript all k number =
     absurd all
-forgotten_next p models log f session (s ∷ scripts) [] script transcript all k number = absurd all
-forgotten_next p models log f session (s ∷ scripts)
+forgotten_next p models log session (s ∷ scripts) [] script transcript all k number = absurd all
+forgotten_next p models log session (s ∷ scripts)
     (t ∷ transcripts) script transcript all k number =
-    let rest =
-    forgotten_next p models log f (session + 1) scripts transcripts script transcript all.1 k
-    (omega arith) in
-    let one =
-    sum_by-append f (forgotten_in session s t)
-    (forgotten_of (session + 1) (scripts ++ script ∷ [])
-    (transcripts ++ transcript ∷ [])) in
-    let two =
-    sum_by-append f (forgotten_in session s t)
-    (forgotten_of (session + 1) scripts transcripts) in
-    omega arith
+    ap (λ (ms : List Mark). forgotten_in session s t ++ ms)
+    (forgotten_next p models log (session + 1) scripts transcripts script transcript all.1 k
+    (omega arith))
+    ∙ sym (append_assoc (forgotten_in session s t)
+    (forgotten_of (session + 1) scripts transcripts) (forgotten_in k script transcript))
 
-module _ (p : Layout) (models : List Content) (session : ℕ) (l : ScriptLine) (old new : Log)
-    (a : LineAnswer) (step : LineStep p models session l old new a) where
+module _ (keep : ℕ) (p : Layout) (models : List Content) (session : ℕ) (l : ScriptLine) (old new : Log)
+    (a : LineAnswer) (step : LineStep keep p models session l old new a) where
   -- a version that stands for another session's line, or an earlier one of this session, goes on to
   -- stand
   standing_stays : (other line n v : ℕ) → n ≤ length old.records
@@ -210,25 +218,27 @@ module _ (p : Layout) (models : List Content) (session : ℕ) (l : ScriptLine) (
   )
 
 -- the loop goes on: one more line
-pub next_line : (p : Layout) (models : List Content) (scripts : List (List ScriptLine))
-    (transcripts : List (List LineAnswer)) (script : List ScriptLine) (transcript : List LineAnswer)
+pub next_line : (since keep : ℕ) (p : Layout) (models : List Content)
+    (scripts : List (List ScriptLine)) (transcripts : List (List LineAnswer))
+    (script : List ScriptLine) (transcript : List LineAnswer)
     (l : ScriptLine) (old new : Log) (a : LineAnswer)
-    → IsSoFar p models scripts transcripts script transcript old → All (λ k. k.line < l.line) script
-    → LineStep p models (length scripts) l old new a
-    → IsSoFar p models scripts transcripts (script ++ l ∷ []) (transcript ++ a ∷ []) new
-next_line p models scripts transcripts script transcript l old new a s rising step =
+    → IsSoFar since keep p models scripts transcripts script transcript old
+    → since ≤ length old.records → All (λ k. k.line < l.line) script
+    → LineStep keep p models (length scripts) l old new a
+    → IsSoFar since keep p models scripts transcripts (script ++ l ∷ []) (transcript ++ a ∷ []) new
+next_line since keep p models scripts transcripts script transcript l old new a s behind rising step =
     let session : ℕ = length scripts in
     let within = moments_within p models old session script transcript s.lines in
     record {
       legal = step.legal;
       suits = step.suits s.suits;
-      before = sessions_stay p models session l old new a step 0 scripts transcripts
+      before = sessions_stay keep p models session l old new a step 0 scripts transcripts
           (omega arith) s.before;
       lines =
           zip_push (LineFits p models new session) script transcript l a
           (zip_map (LineFits p models old session) (LineFits p models new session)
           (λ k. k.line < l.line) script transcript rising
-          (λ k b lt fits. line_stays p models session l old new a step session k b
+          (λ k b lt fits. line_stays keep p models session l old new a step session k b
           (inr (omega arith)) fits) s.lines)
           step.fits;
       moments =
@@ -247,10 +257,17 @@ next_line p models scripts transcripts script transcript l old new a s rising st
           (accepted_in session script transcript) _ _ step.records s.records
           (λ f. accepted_push
           (LineFits p models old session) f session script transcript l a s.lines);
-      marks = same_more old.marks new.marks (forgotten_of 0 scripts transcripts)
-          (forgotten_in session script transcript) _ _ step.marks s.marks
-          (λ f. forgotten_push
-          (LineFits p models old session) f session script transcript l a s.lines);
+      marks =
+          subst (λ (hand : List Mark). SameItems new.marks
+          (with_pushed since keep (numbered 1 new.records) hand)) (sym hand_more)
+          (marks_step since keep (length old.records) old.marks new.marks
+          (forgotten_of 0 scripts transcripts ++ forgotten_in session script transcript)
+          (forgotten_by session l.line a.at a.answer)
+          (numbered 1 old.records) (numbered 1 new.records)
+          (accepted_by session l.line l.command a.at a.answer)
+          s.marks step.marks step.records step.unmarked (all_low old.records)
+          (accepted_later (length old.records) session l.line l.command a.at a.answer step.later)
+          behind (by_hand_or_not session l.line l.command a.at a.answer));
       by = λ i d lt. elim (step.new_marks i d lt) [
         | inl was ↦ wider (get_or new.marks i d)
             (All-contains (IsBy session script) old.marks (get_or new.marks i d) s.by was)
@@ -263,6 +280,18 @@ next_line p models scripts transcripts script transcript l old new a s rising st
       ];
     }
   where
+    hand_more : forgotten_of 0 scripts transcripts
+        ++ forgotten_in (length scripts) (script ++ l ∷ []) (transcript ++ a ∷ [])
+        ≡ (forgotten_of 0 scripts transcripts ++ forgotten_in (length scripts) script transcript)
+        ++ forgotten_by (length scripts) l.line a.at a.answer
+    hand_more =
+        ap (λ (ms : List Mark). forgotten_of 0 scripts transcripts ++ ms)
+        (forgotten_more (LineFits p models old (length scripts)) (length scripts) script transcript
+        l a s.lines)
+        ∙ sym (append_assoc (forgotten_of 0 scripts transcripts)
+        (forgotten_in (length scripts) script transcript)
+        (forgotten_by (length scripts) l.line a.at a.answer))
+
     wider : (m : Mark) → IsBy (length scripts) script m → IsBy (length scripts) (script ++ l ∷ []) m
     wider m (inl e) = inl e
     wider m (inr e) = inr (
@@ -291,12 +320,13 @@ sessions_push p models log session (s ∷ scripts)
     )
 
 -- the next script begins
-pub next_script : (p : Layout) (models : List Content) (scripts : List (List ScriptLine))
-    (transcripts : List (List LineAnswer)) (script : List ScriptLine) (transcript : List LineAnswer)
-    (log : Log)
-    → IsSoFar p models scripts transcripts script transcript log
-    → IsSoFar p models (scripts ++ script ∷ []) (transcripts ++ transcript ∷ []) [] [] log
-next_script p models scripts transcripts script transcript log s =
+pub next_script : (since keep : ℕ) (p : Layout) (models : List Content)
+    (scripts : List (List ScriptLine)) (transcripts : List (List LineAnswer))
+    (script : List ScriptLine) (transcript : List LineAnswer) (log : Log)
+    → IsSoFar since keep p models scripts transcripts script transcript log
+    → IsSoFar since keep p models (scripts ++ script ∷ []) (transcripts ++ transcript ∷ []) [] []
+    log
+next_script since keep p models scripts transcripts script transcript log s =
     let longer : length (scripts ++ script ∷ []) ≡ length scripts + 1 =
     length_push scripts script in
     record {
@@ -310,10 +340,9 @@ next_script p models scripts transcripts script transcript log s =
           (accepted_in (length scripts) script transcript) _ s.records
           (λ f. accepted_next p models log f 0 scripts transcripts script transcript s.before
           (length scripts) (omega arith));
-      marks = same_joined log.marks (forgotten_of 0 scripts transcripts)
-          (forgotten_in (length scripts) script transcript) _ s.marks
-          (λ f. forgotten_next p models log f 0 scripts transcripts script transcript s.before
-          (length scripts) (omega arith));
+      marks =
+          subst (λ (hand : List Mark). SameItems log.marks
+          (with_pushed since keep (numbered 1 log.records) hand)) (sym hand_joined) s.marks;
       by = λ i d lt. elim
           (s.by i d lt) [
             | inl low ↦ inl (omega arith)
@@ -321,6 +350,13 @@ next_script p models scripts transcripts script transcript log s =
                 (let e = here.0 in inl (omega arith))
           ];
     }
+  where
+    hand_joined : forgotten_of 0 (scripts ++ script ∷ []) (transcripts ++ transcript ∷ []) ++ []
+        ≡ forgotten_of 0 scripts transcripts ++ forgotten_in (length scripts) script transcript
+    hand_joined =
+        append-nil (forgotten_of 0 (scripts ++ script ∷ []) (transcripts ++ transcript ∷ []))
+        ∙ forgotten_next p models log 0 scripts transcripts script transcript s.before
+        (length scripts) (omega arith)
 
 -- before the first line, and after the last
 legal_none : (p : Layout) (models : List Content) (coloured : Bool)
@@ -330,10 +366,10 @@ legal_none p models coloured =
     (let l = legal_empty (2 ^ p.side) models p.side refl in
     record { same_side = refl; few = l.few; fit = l.fit; follow = l.follow; rising = l.rising; marked = l.marked })
 
-pub no_lines : (p : Layout) (models : List Content) (coloured : Bool)
-    → IsSoFar p models [] [] [] []
+pub no_lines : (since keep : ℕ) (p : Layout) (models : List Content) (coloured : Bool)
+    → IsSoFar since keep p models [] [] [] []
     (record { side = p.side; coloured = coloured; records = []; marks = [] })
-no_lines p models coloured = record {
+no_lines since keep p models coloured = record {
   legal = legal_none p models coloured;
   suits = All-nil _;
   before = tt;
@@ -344,18 +380,24 @@ no_lines p models coloured = record {
   by = All-nil (IsBy 0 []);
 }
 
-pub all_lines : (p : Layout) (models : List Content) (scripts : List (List ScriptLine))
-    (transcripts : List (List LineAnswer)) (log : Log)
-    → IsSoFar p models scripts transcripts [] [] log
-    → IsLegal (2 ^ p.side) models log × SuitsTints log × Agrees p models log scripts transcripts
-all_lines p models scripts transcripts log s = (
+pub all_lines : (keep : ℕ) (p : Layout) (models : List Content)
+    (scripts : List (List ScriptLine)) (transcripts : List (List LineAnswer)) (log : Log)
+    → IsSoFar 0 keep p models scripts transcripts [] [] log
+    → IsLegal (2 ^ p.side) models log × SuitsTints log
+    × AgreesKeeping keep p models log scripts transcripts
+all_lines keep p models scripts transcripts log s = (
   s.legal,
   s.suits,
   record {
     sessions = s.before;
     shown = record {
       records = record { weighs = λ f. s.records.weighs f ∙ end f };
-      marks = record { weighs = λ f. s.marks.weighs f ∙ last f };
+      marks =
+          subst (λ (ms : List Mark). SameItems log.marks ms)
+          (with_all keep log.records (forgotten_of 0 scripts transcripts))
+          (subst (λ (hand : List Mark). SameItems log.marks
+          (with_pushed 0 keep (numbered 1 log.records) hand))
+          (append-nil (forgotten_of 0 scripts transcripts)) s.marks);
       rising = s.legal.rising;
     };
   },
@@ -367,8 +409,25 @@ all_lines p models scripts transcripts log s = (
     end f = (let both = sum_by-append f
         (accepted_of 0 scripts transcripts) [] in let none : sum_by f [] ≡ 0 = refl in omega arith)
 
-    last : (f : Mark → ℕ)
-        → sum_by f (forgotten_of 0 scripts transcripts ++ []) ≡ sum_by f
-        (forgotten_of 0 scripts transcripts)
-    last f = (let both = sum_by-append f
-        (forgotten_of 0 scripts transcripts) [] in let none : sum_by f [] ≡ 0 = refl in omega arith)
+-- a run that held all versions holds the last ones alone from here on
+pub holds_last : (since keep : ℕ) (p : Layout) (models : List Content)
+    (scripts : List (List ScriptLine)) (transcripts : List (List LineAnswer))
+    (script : List ScriptLine) (transcript : List LineAnswer) (log : Log)
+    → IsSoFar since 0 p models scripts transcripts script transcript log
+    → IsSoFar (length log.records) keep p models scripts transcripts script transcript log
+holds_last since keep p models scripts transcripts script transcript log s =
+    let hand : List Mark =
+    forgotten_of 0 scripts transcripts ++ forgotten_in (length scripts) script transcript in
+    record {
+      legal = s.legal;
+      suits = s.suits;
+      before = s.before;
+      lines = s.lines;
+      moments = s.moments;
+      records = s.records;
+      marks =
+          subst (λ (ms : List Mark). SameItems log.marks ms)
+          (none_pushed since (numbered 1 log.records) hand
+          ∙ sym (pushes_from_here keep log.records hand)) s.marks;
+      by = s.by;
+    }

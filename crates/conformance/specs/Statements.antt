@@ -19,10 +19,10 @@ use Rattle.transcript.specs.declared.answers.Answer.{Answer}
 use Rattle.transcript.specs.declared.answers.Answer.TheVariants as answers
 use Rattle.transcript.specs.declared.answers.LineAnswer.{LineAnswer}
 use Rattle.conformance.specs.Answers.{IsUnforgotten, IsReadable, IsForgotten, HasReadableTarget, Answers, ExtendsLog, target_at}
-use Rattle.conformance.specs.Shown.{Accepted, SameItems, numbered, weight_at, accepted_in, forgotten_in, accepted_of, forgotten_of}
-use Rattle.conformance.specs.Agreeing.{Agrees, SessionAgrees}
+use Rattle.conformance.specs.Shown.{Accepted, SameItems, numbered, weight_at, accepted_by, accepted_in, forgotten_in, accepted_of, forgotten_of}
+use Rattle.conformance.specs.Agreeing.{AgreesKeeping, SessionAgrees}
 use Rattle.conformance.specs.Kinds.{is_resting, answer_at, IsAfter}
-use Rattle.conformance.specs.Running.{IsSoFar, LineStep, GrowsByRecord, ForgetsBy}
+use Rattle.conformance.specs.Running.{IsSoFar, LineStep, GrowsByRecord, ForgetsBy, PushesOut, with_pushed}
 use Rattle.conformance.specs.Passes.{Found, PassSoFar, PassStep, Closes, ArePartly}
 use Rattle.conformance.specs.Refusing.{spans_of, refused_of, FullOnlyWherePossible}
 
@@ -40,30 +40,46 @@ AnswersGoOn = (old new : Log) → ExtendsLog old new → (n : ℕ) → n ≤ len
 -- ---- scripts one after another
 
 abbrev pub RunsBegin : Type 0
-RunsBegin = (p : Layout) (models : List Content) (coloured : Bool)
-    → IsSoFar p models [] [] [] []
+RunsBegin = (since keep : ℕ) (p : Layout) (models : List Content) (coloured : Bool)
+    → IsSoFar since keep p models [] [] [] []
     (record { side = p.side; coloured = coloured; records = []; marks = [] })
 
 abbrev pub RunsGoOnByLines : Type 0
-RunsGoOnByLines = (p : Layout) (models : List Content) (scripts : List (List ScriptLine))
-    (transcripts : List (List LineAnswer)) (script : List ScriptLine) (transcript : List LineAnswer)
+RunsGoOnByLines = (since keep : ℕ) (p : Layout) (models : List Content)
+    (scripts : List (List ScriptLine)) (transcripts : List (List LineAnswer))
+    (script : List ScriptLine) (transcript : List LineAnswer)
     (l : ScriptLine) (old new : Log) (a : LineAnswer)
-    → IsSoFar p models scripts transcripts script transcript old
-    → All (λ k. k.line < l.line) script → LineStep p models (length scripts) l old new a
-    → IsSoFar p models scripts transcripts (script ++ l ∷ []) (transcript ++ a ∷ []) new
+    → IsSoFar since keep p models scripts transcripts script transcript old
+    → since ≤ length old.records
+    → All (λ k. k.line < l.line) script → LineStep keep p models (length scripts) l old new a
+    → IsSoFar since keep p models scripts transcripts (script ++ l ∷ []) (transcript ++ a ∷ []) new
 
 abbrev pub RunsGoOnByScripts : Type 0
-RunsGoOnByScripts = (p : Layout) (models : List Content) (scripts : List (List ScriptLine))
-    (transcripts : List (List LineAnswer)) (script : List ScriptLine) (transcript : List LineAnswer)
-    (log : Log)
-    → IsSoFar p models scripts transcripts script transcript log
-    → IsSoFar p models (scripts ++ script ∷ []) (transcripts ++ transcript ∷ []) [] [] log
+RunsGoOnByScripts = (since keep : ℕ) (p : Layout) (models : List Content)
+    (scripts : List (List ScriptLine)) (transcripts : List (List LineAnswer))
+    (script : List ScriptLine) (transcript : List LineAnswer) (log : Log)
+    → IsSoFar since keep p models scripts transcripts script transcript log
+    → IsSoFar since keep p models (scripts ++ script ∷ []) (transcripts ++ transcript ∷ []) [] [] log
 
 abbrev pub RunsAgree : Type 0
-RunsAgree = (p : Layout) (models : List Content) (scripts : List (List ScriptLine))
+RunsAgree = (keep : ℕ) (p : Layout) (models : List Content) (scripts : List (List ScriptLine))
     (transcripts : List (List LineAnswer)) (log : Log)
-    → IsSoFar p models scripts transcripts [] [] log
-    → IsLegal (2 ^ p.side) models log × SuitsTints log × Agrees p models log scripts transcripts
+    → IsSoFar 0 keep p models scripts transcripts [] [] log
+    → IsLegal (2 ^ p.side) models log × SuitsTints log
+    × AgreesKeeping keep p models log scripts transcripts
+
+-- a run that held all versions may hold the last ones alone from its newest moment on
+abbrev pub RunsHoldLast : Type 0
+RunsHoldLast = (since keep : ℕ) (p : Layout) (models : List Content)
+    (scripts : List (List ScriptLine)) (transcripts : List (List LineAnswer))
+    (script : List ScriptLine) (transcript : List LineAnswer) (log : Log)
+    → IsSoFar since 0 p models scripts transcripts script transcript log
+    → IsSoFar (length log.records) keep p models scripts transcripts script transcript log
+
+-- where all versions are held, the marks are those made by hand
+abbrev pub NoneIsPushed : Type 0
+NoneIsPushed = (since : ℕ) (records : List Accepted) (forgot : List Mark)
+    → with_pushed since 0 records forgot ≡ forgot
 
 -- ---- what each kind of answer makes of a history
 
@@ -71,24 +87,43 @@ abbrev pub AcceptedChangesAreSteps : Type 0
 AcceptedChangesAreSteps = (p : Layout) (models : List Content) (session line : ℕ) (act : Act)
     (once : Bool) (old new : Log)
     → GrowsByRecord p models (record { session = session; line = line; act = act }) old new
-    → LineStep p models session (record { line = line; command = Edit act once }) old new
+    → LineStep 0 p models session (record { line = line; command = Edit act once }) old new
     (record { line = line; at = length old.records + 1; answer = answers.Done })
 
 abbrev pub ForgettingsAreSteps : Type 0
-ForgettingsAreSteps = (p : Layout) (models : List Content) (mark : Mark) (old new : Log)
+ForgettingsAreSteps = (keep : ℕ) (p : Layout) (models : List Content) (mark : Mark)
+    (old new : Log)
     → ForgetsBy p models mark old new
-    → LineStep p models mark.session (record { line = mark.line; command = Forget mark.version })
-    old new
+    → LineStep keep p models mark.session
+    (record { line = mark.line; command = Forget mark.version }) old new
     (record { line = mark.line; at = length old.records; answer = answers.Forgot mark.version })
 
 abbrev pub RestingAnswersAreSteps : Type 0
-RestingAnswersAreSteps = (p : Layout) (models : List Content) (session : ℕ) (l : ScriptLine)
+RestingAnswersAreSteps = (keep : ℕ) (p : Layout) (models : List Content) (session : ℕ) (l : ScriptLine)
     (log : Log) (answer : Answer)
     → IsLegal (2 ^ p.side) models log → is_resting answer ≡ true
     → Answers p models log
     (IsUnforgotten log.marks session l.line (length log.records)) session l.line
     (length log.records) l.command answer
-    → LineStep p models session l log log (answer_at l (length log.records) answer)
+    → LineStep keep p models session l log log (answer_at l (length log.records) answer)
+
+-- and what its record pushes out of the last `keep` versions is marked by its line
+abbrev pub PushedVersionsAreSteps : Type 0
+PushedVersionsAreSteps = (keep : ℕ) (p : Layout) (models : List Content) (session line : ℕ)
+    (act : Act) (once : Bool) (old mid new : Log)
+    → LineStep 0 p models session (record { line = line; command = Edit act once }) old mid
+    (record { line = line; at = length mid.records; answer = answers.Done })
+    → mid.records ≡ old.records ++ record { session = session; line = line; act = act } ∷ []
+    → mid.marks ≡ old.marks → PushesOut keep p models session line mid new
+    → LineStep keep p models session (record { line = line; command = Edit act once }) old new
+    (record { line = line; at = length mid.records; answer = answers.Done })
+
+-- a line that accepts no change pushes none out
+abbrev pub OtherLinesAreSteps : Type 0
+OtherLinesAreSteps = (keep : ℕ) (p : Layout) (models : List Content) (session : ℕ) (l : ScriptLine)
+    (old new : Log) (a : LineAnswer)
+    → accepted_by session l.line l.command a.at a.answer ≡ []
+    → LineStep 0 p models session l old new a → LineStep keep p models session l old new a
 
 -- a version that no mark forgets can be read
 abbrev pub HeldVersionsAreReadable : Type 0
@@ -97,10 +132,11 @@ HeldVersionsAreReadable = (log : Log) (session line v : ℕ) → HoldsVersion lo
 
 -- and one with a mark is forgotten for each further line
 abbrev pub MarkedVersionsAreForgotten : Type 0
-MarkedVersionsAreForgotten = (p : Layout) (models : List Content) (scripts : List (List ScriptLine))
-    (transcripts : List (List LineAnswer)) (script : List ScriptLine) (transcript : List LineAnswer)
+MarkedVersionsAreForgotten = (since keep : ℕ) (p : Layout) (models : List Content)
+    (scripts : List (List ScriptLine)) (transcripts : List (List LineAnswer))
+    (script : List ScriptLine) (transcript : List LineAnswer)
     (l : ScriptLine) (log : Log) (mark : Mark)
-    → IsSoFar p models scripts transcripts script transcript log → IsAfter script l
+    → IsSoFar since keep p models scripts transcripts script transcript log → IsAfter script l
     → Contains log.marks mark
     → IsForgotten log.marks (length scripts) l.line (length log.records) mark.version
 

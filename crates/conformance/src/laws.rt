@@ -1,4 +1,4 @@
-ghost use Rattle.conformance.specs.Statements.{AnswersGoOn, RunsBegin, RunsGoOnByLines, RunsGoOnByScripts, RunsAgree, AcceptedChangesAreSteps, ForgettingsAreSteps, RestingAnswersAreSteps, HeldVersionsAreReadable, MarkedVersionsAreForgotten, UndosGoToPast, RedosGoToFuture, HeldTargetsAreReadable, PassesGoOn, PassesAgree, OwnRecordsAreAll, OwnMarksAreAll, AllRecordsAreOwn, AllMarksAreOwn, RecordsAreShownOnce, NoOthersAreShown, NoneIsShownAtZero, NeverFullWhereTooFew};
+ghost use Rattle.conformance.specs.Statements.{AnswersGoOn, RunsBegin, RunsGoOnByLines, RunsGoOnByScripts, RunsAgree, RunsHoldLast, NoneIsPushed, AcceptedChangesAreSteps, PushedVersionsAreSteps, OtherLinesAreSteps, ForgettingsAreSteps, RestingAnswersAreSteps, HeldVersionsAreReadable, MarkedVersionsAreForgotten, UndosGoToPast, RedosGoToFuture, HeldTargetsAreReadable, PassesGoOn, PassesAgree, OwnRecordsAreAll, OwnMarksAreAll, AllRecordsAreOwn, AllMarksAreOwn, RecordsAreShownOnce, NoOthersAreShown, NoneIsShownAtZero, NeverFullWhereTooFew};
 
 /// An answer that fits a history fits every one that goes on from it.
 pub fn answers_go_on()
@@ -12,12 +12,16 @@ pub fn runs_go_on()
     ensures line { RunsGoOnByLines }
     ensures script { RunsGoOnByScripts }
     ensures end { RunsAgree }
+    ensures last { RunsHoldLast }
+    ensures all { NoneIsPushed }
 {}
 
 /// Each kind of answer is a step of the run: an accepted change, a forgetting, and whatever is
 /// answered without a change.
 pub fn each_answer_is_a_step()
     ensures done { AcceptedChangesAreSteps }
+    ensures pushed { PushedVersionsAreSteps }
+    ensures others { OtherLinesAreSteps }
     ensures forgot { ForgettingsAreSteps }
     ensures rests { RestingAnswersAreSteps }
     ensures readable { HeldVersionsAreReadable }

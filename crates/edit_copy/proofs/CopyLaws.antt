@@ -23,7 +23,6 @@ use Rattle.node_words.proofs.OfContents.SameCells.{octant_same, same_on, same_ba
 use Rattle.node_words.proofs.OfContents.CellShapeLaws.{shape_with-only}
 use Rattle.edit_walk.proofs.OfCells.PaintLaws.{old_child, old_gone, old_same}
 use Rattle.edit_walk.proofs.OfCells.PartLaws.{part_cells, box_missed, box_held}
-use Rattle.node_words.specs.descent.Roots.{IsBlockOf}
 use Rattle.edit_copy.specs.declared.copies.CopyTask.{CopyTask}
 use Rattle.edit_copy.specs.Copies.{IsKeptOld, cube_of, moved, IsOffset, IsBegin, AreTaken, MakesCopy, begin_of, rest_of, source_from, source_octant, source_of, is_unread}
 use Rattle.edit_copy.proofs.WindowLaws.{same_has, branch_same, part_of, window_step, step_rests, step_begins, source_in_cube}
@@ -130,14 +129,12 @@ kept_tree base level part t o old k one is (inr e) =
     }
 
 -- what the call tells of what stands in an octant now
-pub kept_part : (held : List Tree) (level : ℕ) (old : Option Name) (k : ℕ) (part other : Boxed)
-    (name : Option Name) (t : Tree) → part ≡ other → IsBlockOf held level old t
-    → IsKeptOld held level old k part name
-    → (HoldsBlock other (block_at_origin (level - 1)) × (name ≡ None))
-    ⊎ (name ≡ root_of (child_of t k))
-kept_part held level old k part other name t e b (inl h) =
-    inl (subst (λ (p : Boxed). HoldsBlock p (block_at_origin (level - 1))) e h.0, h.1)
-kept_part held level old k part other name t e b (inr f) = inr (sym (f t b).root)
+pub kept_part : (level : ℕ) (part other : Boxed) (below name : Option Name) (t : Tree)
+    → part ≡ other → below ≡ root_of t → IsKeptOld level below part name
+    → (HoldsBlock other (block_at_origin level) × (name ≡ None)) ⊎ (name ≡ root_of t)
+kept_part level part other below name t e is (inl h) =
+    inl (subst (λ (p : Boxed). HoldsBlock p (block_at_origin level)) e h.0, h.1)
+kept_part level part other below name t e is (inr f) = inr (f ∙ is)
 
 -- the task of an octant
 pub makes_octant : (base : List Tree) (level : ℕ) (task : CopyTask) (cells : Cells) (k : ℕ)

@@ -10,7 +10,7 @@ use Rattle.node_words.specs.declared.shapes.names.Name.{Name}
 use Rattle.node_words.specs.shapes.Shape.{Shape, branch_of, has}
 use Rattle.node_words.specs.shapes.Tree.{Tree, child_of, shape_of}
 use Rattle.node_words.specs.Held.{name_in}
-use Rattle.node_words.specs.descent.Roots.{IsBlockOf, IsOctantOf}
+use Rattle.node_words.specs.descent.Roots.{IsBlockOf}
 use Rattle.node_words.specs.contents.CellShapes.{Cells, SameIn}
 use Rattle.edit_walk.specs.cells.Paints.{IsOld, old_lasts}
 use Rattle.edit_walk.specs.cells.Tasks.{Lasts}
@@ -131,11 +131,11 @@ AreTaken held level row at offset part names =
     (IsEmpty part × ((j : ℕ) → j < 8 → name_in names j ≡ None))
     ⊎ ((j : ℕ) → j < 8 → IsSource held level row at offset j (name_in names j))
 
--- the name is that of the octant, or none where the box holds the whole octant
-abbrev pub IsKeptOld : List Tree → ℕ → Option Name → ℕ → Boxed → Option Name → Type 0
-IsKeptOld held level old k part name =
-    (HoldsBlock part (block_at_origin (level - 1)) × (name ≡ None))
-    ⊎ IsOctantOf held level old k name
+-- the name is that of what stands in a block of this level, or none where the box holds the whole
+-- block
+abbrev pub IsKeptOld : ℕ → Option Name → Boxed → Option Name → Type 0
+IsKeptOld level below part name =
+    (HoldsBlock part (block_at_origin level) × (name ≡ None)) ⊎ (name ≡ below)
 
 -- where the sources of an octant begin: in the first three quarters, on each axis
 pub record IsBegin (at : Cell) : Type 0 where

@@ -4,8 +4,8 @@ ghost use Rattle.std.specs.Int.{bit_not, w64};
 use crate::sources::{Step, are_none, leaves_in, same_sources, sources_in, step_to};
 use edit_walk::{Repeats, Task, Whole, old_whole};
 use node_words::{
-    Blocks, Name, box_bits, half_side, leaf_bits, octant_name, part_of, same_boxes, same_cells,
-    same_names, window_bits,
+    Blocks, Name, box_bits, half_side, leaf_bits, part_of, same_boxes, same_cells, same_names,
+    window_bits,
 };
 use vw_cell::{Block, Boxed, Cell};
 
@@ -34,15 +34,23 @@ impl Task for CopyTask {
 
     ghost mixed_in = { λ level t k. blocks_in (level - 1) };
 
+    ghost was = { λ t. t.old };
+
     fn old(&self) -> Option<Name> {
         self.old
     }
 
     #[inline(always)]
-    fn octant<B: Blocks>(&self, store: &mut B, level: u8, octant: u8) -> CopyTask {
+    fn octant<B: Blocks>(
+        &self,
+        store: &mut B,
+        level: u8,
+        octant: u8,
+        old: Option<Name>,
+    ) -> CopyTask {
         let half = half_side(level);
         let part = part_of(half, self.part, octant);
-        let old = kept_old(store, level, self.old, octant, part);
+        let old = kept_old(level - 1, old, part);
         let step = step_to(self.offset, level - 1, octant);
         let sources = taken_in(store, level, &self.sources, step, part);
         CopyTask {
@@ -109,33 +117,19 @@ impl Repeats for CopyTask {
     }
 }
 
-// What stands in an octant now, where the copy leaves cells of it: none where the box holds the
-// whole octant.
-fn kept_old<B: Blocks>(
-    store: &mut B,
-    level: u8,
-    old: Option<Name>,
-    octant: u8,
-    part: Boxed,
-) -> Option<Name>
-    requires level { (1 ≤ level) × (level ≤ 10) }
-    requires octant { octant < 8 }
-    requires block { HasBlock (B.seen store.old).held level old }
-    ensures old { IsKeptOld (B.seen store.old).held level old octant part result }
-    ensures seen { B.seen store.new ≡ B.seen store.old }
-    ensures rests { B.rests store.old store.new }
+// What stands in an octant of this level now, where the copy leaves cells of it: none where the box
+// holds the whole octant.
+fn kept_old(level: u8, below: Option<Name>, part: Boxed) -> Option<Name>
+    requires { level ≤ 10 }
+    ensures { IsKeptOld level below part result }
 {
-    let block = Block {
-        level: level - 1,
-        at: ORIGIN,
-    };
+    let block = Block { level, at: ORIGIN };
     if part.holds_block(block) {
         return None;
     }
-    octant_name(store, level, old, octant)
+    below
 }
 
-ghost use Rattle.node_words.specs.descent.Roots.{HasBlock};
 ghost use Rattle.edit_copy.specs.Copies.{IsKeptOld};
 
 // Whether no cell is in the box.

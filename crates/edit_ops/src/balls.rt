@@ -6,7 +6,7 @@ ghost use Rattle.edit_ops.specs.Balls.{world_task};
 
 use crate::boxes::word_of;
 use edit_walk::{Repeats, Task, Whole, clears_nothing, filled, old_whole, paint, side_of};
-use node_words::{Blocks, Name, ball_bits, leaf_bits, octant_name, same_cells, same_names};
+use node_words::{Blocks, Name, ball_bits, leaf_bits, same_cells, same_names};
 use vw_cell::{Ball, Block, Cell};
 
 /// Whether a place lies in a ball.
@@ -58,13 +58,20 @@ impl Task for BallTask {
 
     ghost mixed_in = { λ level t k. blocks_in (level - 1) };
 
+    ghost was = { λ t. t.old };
+
     fn old(&self) -> Option<Name> {
         self.old
     }
 
     #[inline(always)]
-    fn octant<B: Blocks>(&self, store: &mut B, level: u8, octant: u8) -> BallTask {
-        let old = octant_name(store, level, self.old, octant);
+    fn octant<B: Blocks>(
+        &self,
+        _store: &mut B,
+        level: u8,
+        octant: u8,
+        old: Option<Name>,
+    ) -> BallTask {
         let block = Block { level, at: self.at };
         let part = block.child(octant);
         let side = side_of(level - 1);

@@ -1,9 +1,7 @@
 ghost use Rattle.std.specs.Prelude.{◌≡◌, ◌+◌, ◌-◌, ◌*◌, ◌^◌, ◌<◌, ◌≤◌, ℕ, IsTrue};
 
 use edit_walk::{Repeats, Task, Whole, clears_nothing, filled, old_whole, paint};
-use node_words::{
-    Blocks, Name, box_bits, half_side, leaf_bits, octant_name, part_of, same_boxes, same_names,
-};
+use node_words::{Blocks, Name, box_bits, half_side, leaf_bits, part_of, same_boxes, same_names};
 use vw_cell::{Block, Boxed, Cell};
 
 /// Sets or clears the cells of a box in one block. The box is told by its places in the block.
@@ -31,13 +29,20 @@ impl Task for BoxTask {
     ghost mixed_in = { λ level t k. parts_met (level - 1)
         (part_in (block_side (level - 1)) t.part k) };
 
+    ghost was = { λ t. t.old };
+
     fn old(&self) -> Option<Name> {
         self.old
     }
 
     #[inline(always)]
-    fn octant<B: Blocks>(&self, store: &mut B, level: u8, octant: u8) -> BoxTask {
-        let old = octant_name(store, level, self.old, octant);
+    fn octant<B: Blocks>(
+        &self,
+        _store: &mut B,
+        level: u8,
+        octant: u8,
+        old: Option<Name>,
+    ) -> BoxTask {
         let half = half_side(level);
         let part = part_of(half, self.part, octant);
         BoxTask {

@@ -4,7 +4,7 @@ ghost use Rattle.edit_ops.specs.Clips.{is_in_clip};
 
 use crate::balls::{is_inside, is_outside};
 use edit_walk::{Task, Whole, clears_nothing, filled, old_whole, paint, side_of};
-use node_words::{Blocks, Name, ball_bits, box_bits, leaf_bits, octant_name};
+use node_words::{Blocks, Name, ball_bits, box_bits, leaf_bits};
 use vw_cell::{Ball, Block, Boxed, Cell};
 
 /// Sets or clears the cells of a ball that lie in a box, in the block at a place of the world. What
@@ -31,12 +31,19 @@ impl<'b> Task for ClipTask<'b> {
 
     ghost mixed_in = { λ level t k. blocks_in (level - 1) };
 
+    ghost was = { λ t. t.old };
+
     fn old(&self) -> Option<Name> {
         self.old
     }
 
-    fn octant<B: Blocks>(&self, store: &mut B, level: u8, octant: u8) -> ClipTask<'b> {
-        let old = octant_name(store, level, self.old, octant);
+    fn octant<B: Blocks>(
+        &self,
+        _store: &mut B,
+        level: u8,
+        octant: u8,
+        old: Option<Name>,
+    ) -> ClipTask<'b> {
         let block = Block { level, at: self.at };
         let part = block.child(octant);
         ClipTask {

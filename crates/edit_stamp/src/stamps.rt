@@ -1,7 +1,7 @@
 ghost use Rattle.std.specs.Prelude.{◌≡◌, ◌+◌, ◌-◌, ◌*◌, ◌^◌, ◌<◌, ◌≤◌, ℕ, IsTrue};
 
 use crate::stencils::Stencil;
-use edit_walk::{Task, Whole, clears_nothing, filled, leaf_bits, octant_name, old_whole, paint};
+use edit_walk::{Task, Whole, clears_nothing, filled, leaf_bits, old_whole, paint};
 use node_words::{Blocks, Name};
 use vw_cell::{Block, Boxed, Cell};
 
@@ -30,12 +30,19 @@ impl<'s> Task for StampTask<'s> {
 
     ghost mixed_in = { λ level t k. blocks_in (level - 1) };
 
+    ghost was = { λ t. t.old };
+
     fn old(&self) -> Option<Name> {
         self.old
     }
 
-    fn octant<B: Blocks>(&self, store: &mut B, level: u8, octant: u8) -> StampTask<'s> {
-        let old = octant_name(store, level, self.old, octant);
+    fn octant<B: Blocks>(
+        &self,
+        _store: &mut B,
+        level: u8,
+        octant: u8,
+        old: Option<Name>,
+    ) -> StampTask<'s> {
         let block = Block { level, at: self.at };
         let part = block.child(octant);
         StampTask {

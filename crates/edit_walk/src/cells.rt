@@ -8,7 +8,7 @@ mod paints;
 mod sides;
 mod tasks;
 
-pub use node_words::{leaf_bits, name_of, octant_name};
+pub use node_words::{leaf_bits, name_of};
 pub use paints::{clears_nothing, filled, old_whole, paint};
 pub use sides::{is_large, side_of};
 pub use tasks::{Task, Whole};

@@ -20,8 +20,7 @@ mod worlds;
 
 pub use blocks::{again, back_all, back_if, full_block, join, leaf, named, put};
 pub use cells::{
-    Task, Whole, clears_nothing, filled, is_large, leaf_bits, name_of, octant_name, old_whole,
-    paint, side_of,
+    Task, Whole, clears_nothing, filled, is_large, leaf_bits, name_of, old_whole, paint, side_of,
 };
 pub use memos::{Latest, Memo, MemoEntry, NoMemo, Repeats};
 pub use upper::Upper;

@@ -4,3 +4,5 @@ mod FillLaws
 mod SideLaws
 pub mod SavedLaws
 mod SurfaceLaws
+mod RowLaws
+mod NearLaws

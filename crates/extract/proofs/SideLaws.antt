@@ -1,6 +1,6 @@
 -- The leaves of a layer, filled in for all directions at once.
-use Rattle.std.proofs.Common.{◌≡◌, ℕ, ◌+◌, ◌-◌, ◌/◌, ◌<◌, ◌≤◌, Bool, List, Option, None, sym, ap, subst, ◌∙◌}
-use Rattle.std.specs.Prelude.{◌&&◌, not, slice_index, slice_set}
+use Rattle.std.proofs.Common.{◌≡◌, ℕ, zero, suc, ◌+◌, ◌-◌, ◌/◌, ◌<◌, ◌≤◌, Bool, true, false, List, Option, None, refl, sym, ap, subst, ◌∙◌, arith}
+use Rattle.std.specs.Prelude.{◌&&◌, not, if◌then◌else◌, slice_index, slice_set}
 use Rattle.vw_cell.specs.declared.cells.Cell.{Cell}
 use Rattle.vw_cell.specs.declared.boxes.Boxed.{Boxed}
 use Rattle.vw_cell.specs.declared.blocks.Block.{Block}
@@ -12,7 +12,7 @@ use Rattle.vw_cell.specs.Places.{block_side, octant_of}
 use Rattle.node_words.specs.declared.shapes.names.Name.{Name}
 use Rattle.node_words.specs.shapes.Shape.{Shape}
 use Rattle.node_words.specs.shapes.Tree.{Tree, shape_of, child_of}
-use Rattle.node_words.specs.Held.{StoreState}
+use Rattle.node_words.specs.Held.{StoreState, name_in}
 use Rattle.node_words.specs.descent.Roots.{IsBlockOf, IsOctantOf, HasBlock, ForBlock, cells_of}
 use Rattle.node_words.specs.descent.Parts.{EndsBy, placed}
 use Rattle.node_words.proofs.OfShapes.ShapeLaws.{has-clear}
@@ -21,17 +21,19 @@ use Rattle.node_words.proofs.OfDescent.BlockLaws.{clear_block}
 use Rattle.node_words.proofs.OfDescent.LookLaws.{placed_set}
 use Rattle.node_words.proofs.OfDescent.PartLaws.{placed_in}
 use Rattle.measure.specs.declared.exposed_sides.ExposedSides.{ExposedSides}
-use Rattle.measure.specs.Exposed.{PassesExposed, is_next_set}
+use Rattle.measure.specs.Exposed.{PassesExposed, across, is_next_set, stays}
 use Rattle.measure.specs.Faces.{passes_exposed}
 use Rattle.measure.specs.Tallies.{PassesNone, in_octant}
 use Rattle.measure.specs.Widening.{ForCounted}
-use Rattle.measure.proofs.FaceLaws.{some_bare}
-use Rattle.measure.proofs.WideningLaws.{child_counts, octant_passed}
-use Rattle.extract.specs.Filling.{Fills}
-use Rattle.extract.specs.Layers.{HoldsLayer, IsLeafCorner, IsSmallLayer, leaves_in}
-use Rattle.extract.specs.Sides.{HasSides, beside_of, sided}
+use Rattle.measure.proofs.FaceLaws.{octant_bare, some_bare}
+use Rattle.measure.proofs.WideningLaws.{child_counts, octant_passed, still_counts}
+use Rattle.extract.specs.Filling.{Fills, IsInFirst}
+use Rattle.extract.specs.Layers.{HoldsLayer, IsLeafCorner, IsSmallLayer, leaf_corner, leaves_in}
+use Rattle.extract.specs.Sides.{AreNear, HasSides, beside_of, names_towards, sided, words_towards}
+use Rattle.extract.specs.declared.bare_layers.BareLayer.{BareLayer}
+use Rattle.extract.specs.declared.nearby.Nearby.{Nearby}
 use Rattle.extract.specs.declared.surrounded.Surrounded.{Surrounded}
-use Rattle.extract.proofs.FillLaws.{LiesAmong, bare_filled, nothing_fills}
+use Rattle.extract.proofs.FillLaws.{LiesAmong, bare_filled, fills_block, fills_more, fills_none, nothing_fills}
 
 -- what holds of each direction holds of all
 pub each_way : (P : Direction → Type 0) → P LowX → P HighX → P LowY → P HighY → P LowZ → P HighZ
@@ -88,31 +90,128 @@ octant_sides a b place inner k s child e is down has = record {
       (down d) (has.each d).1;
 }
 
--- what stands beside an octant, told while the store is seen as before
-pub across_told : (a b : StoreState) (d : Direction) (level k : ℕ)
-    (block beside child next : Option Name) → b ≡ a
-    → ((child : Option Name) (test : Cell → Bool) → IsOctantOf b.held level block k child
-    → PassesExposed d b.held level block beside test
-    → PassesExposed d b.held (level - 1) child next (in_octant level k test))
-    → IsOctantOf a.held level block k child → (test : Cell → Bool)
-    → PassesExposed d a.held level block beside test
-    → PassesExposed d a.held (level - 1) child next (in_octant level k test)
-across_told a b d level k block beside child next e told octant test p =
-    subst (λ (st : StoreState). (child : Option Name) (test : Cell → Bool)
-    → IsOctantOf st.held level block k child
-    → PassesExposed d st.held level block beside test
-    → PassesExposed d st.held (level - 1) child next (in_octant level k test)) e told
-    child test octant p
+-- what stands beside an octant, by the names that are near
+below_eight : (P : ℕ → Type 0) → P 0 → P 1 → P 2 → P 3 → P 4 → P 5 → P 6 → P 7 → (k : ℕ) → k < 8
+    → P k
+below_eight P a b c d e f g h zero lt = a
+below_eight P a b c d e f g h (suc zero) lt = b
+below_eight P a b c d e f g h (suc (suc zero)) lt = c
+below_eight P a b c d e f g h (suc (suc (suc zero))) lt = d
+below_eight P a b c d e f g h (suc (suc (suc (suc zero)))) lt = e
+below_eight P a b c d e f g h (suc (suc (suc (suc (suc zero))))) lt = f
+below_eight P a b c d e f g h (suc (suc (suc (suc (suc (suc zero)))))) lt = g
+below_eight P a b c d e f g h (suc (suc (suc (suc (suc (suc (suc zero))))))) lt = h
+below_eight P a b c d e f g h (suc (suc (suc (suc (suc (suc (suc (suc k)))))))) lt =
+    absurd (omega arith)
 
-pub octant_told : (a b : StoreState) (level k : ℕ) (s child : Surrounded) → b ≡ a
-    → ((d : Direction) (test : Cell → Bool) → passes_exposed b.held level (sided s d) test
-    → passes_exposed b.held (level - 1) (sided child d) (in_octant level k test))
-    → (d : Direction) (test : Cell → Bool) → passes_exposed a.held level (sided s d) test
-    → passes_exposed a.held (level - 1) (sided child d) (in_octant level k test)
-octant_told a b level k s child e told =
-    subst (λ (st : StoreState). (d : Direction) (test : Cell → Bool)
-    → passes_exposed st.held level (sided s d) test
-    → passes_exposed st.held (level - 1) (sided child d) (in_octant level k test)) e told
+pub across_below : (d : Direction) (k : ℕ) → k < 8 → across d k < 8
+across_below LowX =
+    below_eight (λ k. across LowX k < 8) (omega arith) (omega arith) (omega arith) (omega arith) (omega arith) (omega arith) (omega arith) (omega arith)
+across_below HighX =
+    below_eight (λ k. across HighX k < 8) (omega arith) (omega arith) (omega arith) (omega arith) (omega arith) (omega arith) (omega arith) (omega arith)
+across_below LowY =
+    below_eight (λ k. across LowY k < 8) (omega arith) (omega arith) (omega arith) (omega arith) (omega arith) (omega arith) (omega arith) (omega arith)
+across_below HighY =
+    below_eight (λ k. across HighY k < 8) (omega arith) (omega arith) (omega arith) (omega arith) (omega arith) (omega arith) (omega arith) (omega arith)
+across_below LowZ =
+    below_eight (λ k. across LowZ k < 8) (omega arith) (omega arith) (omega arith) (omega arith) (omega arith) (omega arith) (omega arith) (omega arith)
+across_below HighZ =
+    below_eight (λ k. across HighZ k < 8) (omega arith) (omega arith) (omega arith) (omega arith) (omega arith) (omega arith) (omega arith) (omega arith)
+
+from_near : (d : Direction) (held : List Tree) (level j : ℕ) (s : Surrounded) (near : Nearby)
+    (v : Bool) → j < 8 → AreNear held level s near
+    → IsOctantOf held level (if v then s.block else beside_of s d) j
+    (name_in (if v then near.block else names_towards near d) j)
+from_near d held level j s near true lt are = are.block j lt
+from_near d held level j s near false lt are = are.beside d j lt
+
+pub near_octant : (st : StoreState) (level k : ℕ) (s child : Surrounded) (near : Nearby)
+    → 1 ≤ level → k < 8 → AreNear st.held level s near → child.block ≡ name_in near.block k
+    → ((d : Direction) → beside_of child d
+    ≡ name_in (if stays d k then near.block else names_towards near d) (across d k))
+    → (d : Direction) (test : Cell → Bool) → passes_exposed st.held level (sided s d) test
+    → passes_exposed st.held (level - 1) (sided child d) (in_octant level k test)
+near_octant st level k s child near h lt are block beside d test p =
+    let name : Option Name = name_in near.block k in
+    let next : Option Name =
+    name_in (if stays d k then near.block else names_towards near d) (across d k) in
+    let bare =
+    octant_bare d st st level k (across d k) s.block (beside_of s d)
+    (if stays d k then s.block else beside_of s d) name next (stays d k) test refl refl refl refl h
+    lt (are.block k lt)
+    (from_near d st.held level (across d k) s near (stays d k) (across_below d k lt) are) p in
+    subst (λ (n : Option Name). PassesExposed d st.held (level - 1) n (beside_of child d)
+    (in_octant level k test)) (sym block)
+    (subst (λ (n : Option Name). PassesExposed d st.held (level - 1) name n
+    (in_octant level k test)) (sym (beside d)) bare)
+
+pub near_name : (held : List Tree) (level k : ℕ) (s child : Surrounded) (near : Nearby) → k < 8
+    → AreNear held level s near → child.block ≡ name_in near.block k
+    → IsOctantOf held level s.block k child.block
+near_name held level k s child near lt are e =
+    subst (λ (n : Option Name). IsOctantOf held level s.block k n) (sym e) (are.block k lt)
+
+-- what is near stays so while what is seen stays
+pub near_still : (a b : StoreState) (level : ℕ) (s : Surrounded) (near : Nearby) → b ≡ a
+    → AreNear a.held level s near → AreNear b.held level s near
+near_still a b level s near e are =
+    subst (λ (st : StoreState). AreNear st.held level s near) (sym e) are
+
+-- a block's octants, each looked at once
+pub octants_still : (a b : StoreState) (level : ℕ) (block : Option Name) (names : List (Option Name))
+    → b ≡ a → ((k : ℕ) → k < 8 → IsOctantOf b.held level block k (name_in names k))
+    → (k : ℕ) → k < 8 → IsOctantOf a.held level block k (name_in names k)
+octants_still a b level block names e told =
+    subst (λ (st : StoreState). (k : ℕ) → k < 8
+    → IsOctantOf st.held level block k (name_in names k)) e told
+
+pub beside_block : (held : List Tree) (level : ℕ) (s : Surrounded) (d : Direction)
+    → HasSides held level s → HasBlock held level (beside_of s d)
+beside_block held level s d has =
+    let p = (has.each d).1 in record { tree = p.next; is_block = p.is_beside }
+
+pub beside_still : (a b : StoreState) (level : ℕ) (s : Surrounded) (d : Direction) → b ≡ a
+    → HasSides a.held level s → HasBlock b.held level (beside_of s d)
+beside_still a b level s d e has = beside_block b.held level s d (sides_still a b level s e has)
+
+-- one octant more is filled in
+abbrev pub FillsFirst : List Tree → Surrounded → Block → Boxed → ℕ → ℕ → BareLayer → BareLayer
+    → Type 0
+FillsFirst held s place b layer n old new =
+    (d : Direction) → ForCounted passes_exposed held (sided s d) place
+    (λ cells. Fills (λ m. IsInFirst place n (leaf_corner b layer m)) b layer cells
+    (words_towards old d) (words_towards new d))
+
+abbrev pub FillsNth : List Tree → Surrounded → Block → Boxed → ℕ → ℕ → BareLayer → BareLayer
+    → Type 0
+FillsNth held s place b layer n old new =
+    (d : Direction) → ForCounted passes_exposed held (sided s d) place
+    (λ cells. Fills (LiesAmong b layer (octant_of place n)) b layer cells (words_towards old d)
+    (words_towards new d))
+
+pub first_filled : (held : List Tree) (s : Surrounded) (place : Block) (b : Boxed) (layer : ℕ)
+    (words : BareLayer) → FillsFirst held s place b layer 0 words words
+first_filled held s place b layer words d cells test p shows =
+    fills_none _ b layer cells (words_towards words d)
+    (λ f m lt i. (let below = i.below in absurd (omega (arith, below))))
+
+pub next_filled : (a st : StoreState) (s : Surrounded) (place : Block) (b : Boxed) (layer n : ℕ)
+    (old mid new : BareLayer) → st ≡ a → FillsFirst a.held s place b layer n old mid
+    → FillsNth st.held s place b layer n mid new
+    → FillsFirst a.held s place b layer (n + 1) old new
+next_filled a st s place b layer n old mid new e first nth d cells test p shows =
+    fills_more place b layer n cells (words_towards old d) (words_towards mid d)
+    (words_towards new d) (first d cells test p shows)
+    (nth d cells test (still_counts passes_exposed a st place.level (sided s d) test e p) shows)
+
+pub all_filled : (held : List Tree) (s : Surrounded) (place : Block) (b : Boxed) (layer : ℕ)
+    (old new : BareLayer) → 1 ≤ place.level → FillsFirst held s place b layer 8 old new
+    → (d : Direction) → ForCounted passes_exposed held (sided s d) place
+    (λ cells. Fills (LiesAmong b layer place) b layer cells (words_towards old d)
+    (words_towards new d))
+all_filled held s place b layer old new h first d cells test p shows =
+    fills_block place b layer 8 cells (words_towards old d) (words_towards new d) h refl
+    (first d cells test p shows)
 
 -- an octant in which nothing stands has no bare cell
 none_in_octant : (d : Direction) (held : List Tree) (level k : ℕ) (block beside child : Option Name)

@@ -179,7 +179,7 @@ no_any leaf any h e = record {
 }
 
 -- a row of which no cell is set
-bit_moved : (n k i j : ℕ) → j ≡ k + i → bit_at (n / 2 ^ k) i ≡ bit_at n j
+pub bit_moved : (n k i j : ℕ) → j ≡ k + i → bit_at (n / 2 ^ k) i ≡ bit_at n j
 bit_moved n k i j e =
     ap (λ (m : ℕ). m % 2) (shr-shr n k i) ∙ ap (λ (q : ℕ). bit_at n q) (sym e)
 

@@ -1,5 +1,6 @@
 -- The leaves of a layer of a box by the cells that are bare towards each direction.
-use Rattle.std.specs.Prelude.{◌≡◌, ℕ, ◌+◌, ◌<◌, ◌≤◌, List, slice_index, Bool, false}
+use Rattle.std.specs.Prelude.{◌≡◌, ℕ, ◌+◌, ◌*◌, ◌/◌, ◌%◌, ◌^◌, ◌<◌, ◌≤◌, List, slice_index, Bool, false}
+use Rattle.std.specs.Int.{bit_at}
 use Rattle.vw_cell.specs.declared.cells.Cell.{Cell}
 use Rattle.vw_cell.specs.declared.boxes.Boxed.{Boxed}
 use Rattle.vw_cell.specs.declared.directions.Direction.TheVariants.{LowX, HighX, LowY, HighY, LowZ, HighZ}
@@ -39,6 +40,17 @@ abbrev pub leaf_sides : BareLeaf → Cell → ℕ
 leaf_sides leaf c =
     sides_number (bits_show leaf.low_x c) (bits_show leaf.high_x c) (bits_show leaf.low_y c)
     (bits_show leaf.high_y c) (bits_show leaf.low_z c) (bits_show leaf.high_z c)
+
+-- the bare sides of the four cells of a row of a leaf, a byte for each
+pub record TellsRow (row : ℕ) (leaf : BareLeaf) (y z : ℕ) : Type 0 where
+  pub each : (x : ℕ) → x < 4 → row / 2 ^ (8 * x) % 256 ≡ leaf_sides leaf (cell_at x y z)
+
+-- four bytes as one number, and the first four bits of a word, a byte for each
+abbrev pub four_bytes : ℕ → ℕ → ℕ → ℕ → ℕ
+four_bytes a b c d = a + 256 * b + 65536 * c + 16777216 * d
+
+abbrev pub spread : ℕ → ℕ
+spread word = four_bytes (bit_at word 0) (bit_at word 1) (bit_at word 2) (bit_at word 3)
 
 -- the cells of a leaf that have a bare side are among those of a word
 pub record IsAny (leaf : BareLeaf) (any : ℕ) : Type 0 where

@@ -1,20 +1,17 @@
 ghost use Rattle.std.specs.Prelude.{◌≡◌, ℕ, ◌+◌, ◌*◌, ◌/◌, ◌<◌, ◌≤◌, length, slice_index, slice_set};
-ghost use Rattle.vw_cell.specs.Places.{block_side, IsInWorld};
+ghost use Rattle.vw_cell.specs.Places.{block_side};
 ghost use Rattle.vw_cell.specs.declared.directions.Direction.{Direction};
-ghost use Rattle.node_words.specs.descent.Answers.{AreRight};
 ghost use Rattle.node_words.specs.descent.Parts.{EndsBy};
 ghost use Rattle.node_words.specs.descent.Roots.{HasBlock, ForBlock, cells_of};
-ghost use Rattle.measure.specs.Faces.{passes_exposed};
-ghost use Rattle.measure.specs.Tallies.{IsWholeTally};
 ghost use Rattle.extract.specs.Layers.{IsSmallLayer, leaves_in};
-ghost use Rattle.extract.specs.Sides.{leaf_towards, words_towards};
-ghost use Rattle.extract.specs.BareLayers.{HoldsBare, HoldsSlab, CountsBlank, HaveAny, IsAny, IsBlank, leaf_at, leaf_sides};
+ghost use Rattle.extract.specs.Sides.{AreFound, leaf_towards, words_towards};
+ghost use Rattle.extract.specs.BareLayers.{HoldsBare, HoldsSlab, CountsBlank, HaveAny, IsAny, IsBlank, leaf_at};
 
+use crate::alike::Found;
 use crate::leaves::{clear, leaves_of};
 use crate::side_walks::fill_sides;
 use crate::surrounded::Surrounded;
-use measure::{ExposedSides, WholeBlock};
-use node_words::{Answers, Blocks, Name, leaf_has};
+use node_words::{Blocks, Name};
 use vw_cell::{Block, Boxed, Cell};
 
 /// The leaves of a layer of a box, row by row, by the cells that are bare towards each direction.
@@ -69,7 +66,7 @@ impl Slab {
 /// Reads the layer of a box that has its z-th layer of cells.
 pub(crate) fn gather_slab<B: Blocks>(
     store: &mut B,
-    wholes: &mut Answers<WholeBlock<ExposedSides>>,
+    found: &mut Found,
     level: u8,
     block: Option<Name>,
     b: Boxed,
@@ -81,17 +78,15 @@ pub(crate) fn gather_slab<B: Blocks>(
     requires b { IsSmallLayer b }
     requires ends { EndsBy (block_side level) b }
     requires z { z < b.size.z }
-    requires wholes { AreRight
-        (IsWholeTally passes_exposed) (B.seen store.old).held wholes.old.places }
+    requires found { AreFound (B.seen store.old).held found.old }
     ensures layer { ForBlock (B.seen store.old).held level block
         (λ s. HoldsSlab slab.new b ((b.at.z + z) / 4) (block_side level) (cells_of level s)) }
     ensures block { HasBlock (B.seen store.new).held level block }
-    ensures wholes { AreRight
-        (IsWholeTally passes_exposed) (B.seen store.old).held wholes.new.places }
+    ensures found { AreFound (B.seen store.old).held found.new }
     ensures seen { B.seen store.new ≡ B.seen store.old }
     ensures rests { B.rests store.old store.new }
 {
-    gather_sides(store, wholes, level, block, b, z, &mut slab.words);
+    gather_sides(store, found, level, block, b, z, &mut slab.words);
     count_blanks(&slab.words, leaves_of(b), &mut slab.anys, &mut slab.blanks);
 }
 
@@ -129,7 +124,7 @@ fn blank_run(any: u64, behind: u8) -> u8
 // Reads the words of the layer of a box that has its z-th layer of cells.
 fn gather_sides<B: Blocks>(
     store: &mut B,
-    wholes: &mut Answers<WholeBlock<ExposedSides>>,
+    found: &mut Found,
     level: u8,
     block: Option<Name>,
     b: Boxed,
@@ -141,13 +136,11 @@ fn gather_sides<B: Blocks>(
     requires b { IsSmallLayer b }
     requires ends { EndsBy (block_side level) b }
     requires z { z < b.size.z }
-    requires wholes { AreRight
-        (IsWholeTally passes_exposed) (B.seen store.old).held wholes.old.places }
+    requires found { AreFound (B.seen store.old).held found.old }
     ensures layer { ForBlock (B.seen store.old).held level block
         (λ s. HoldsBare words.new b ((b.at.z + z) / 4) (block_side level) (cells_of level s)) }
     ensures block { HasBlock (B.seen store.new).held level block }
-    ensures wholes { AreRight
-        (IsWholeTally passes_exposed) (B.seen store.old).held wholes.new.places }
+    ensures found { AreFound (B.seen store.old).held found.new }
     ensures seen { B.seen store.new ≡ B.seen store.old }
     ensures rests { B.rests store.old store.new }
 {
@@ -155,7 +148,7 @@ fn gather_sides<B: Blocks>(
     let at = Cell { x: 0, y: 0, z: 0 };
     let place = Block { level, at };
     let subject = Surrounded::world(block);
-    fill_sides(store, wholes, &subject, place, b, (b.at.z + z) / 4, words);
+    fill_sides(store, found, &subject, place, b, (b.at.z + z) / 4, words);
 }
 
 // Makes the words of a layer of the box 0.
@@ -218,24 +211,3 @@ pub(crate) fn any_of(leaf: BareLeaf) -> u64
     let z = leaf.low_z | leaf.high_z;
     x | y | z
 }
-
-/// The bare sides of a cell of the leaf.
-#[inline(always)]
-pub(crate) fn sides_at(leaf: BareLeaf, c: Cell) -> u8
-    requires { IsInWorld 4 c }
-    ensures { result ≡ leaf_sides leaf c }
-{
-    let low = one_if(leaf_has(leaf.low_x, c)) + 2 * one_if(leaf_has(leaf.high_x, c));
-    let middle = 4 * one_if(leaf_has(leaf.low_y, c)) + 8 * one_if(leaf_has(leaf.high_y, c));
-    let high = 16 * one_if(leaf_has(leaf.low_z, c)) + 32 * one_if(leaf_has(leaf.high_z, c));
-    low + middle + high
-}
-
-fn one_if(set: bool) -> u8
-    ensures value { result ≡ one_if set }
-    ensures bound { result ≤ 1 }
-{
-    if set { 1 } else { 0 }
-}
-
-ghost use Rattle.vw_cell.specs.Sums.{one_if};

@@ -7,10 +7,14 @@
 //! `specs/Surface.antt`.
 #![tactic(auto)]
 
+mod alike;
 mod bare_layers;
+mod bare_rows;
 mod boxes;
 mod files;
 mod leaves;
+mod near_leaves;
+mod nearby;
 mod rows;
 mod side_walks;
 mod surfaces;

@@ -1,20 +1,19 @@
 ghost use Rattle.std.specs.Prelude.{◌≡◌, ℕ, ◌+◌, ◌-◌, ◌*◌, ◌/◌, ◌<◌, ◌≤◌, ◌^◌, ◌++◌, take, length, Bool, OnOk, OnErr, option_copied, slice_index};
 ghost use Rattle.vw_cell.specs.declared.cells.Cell.{Cell};
-ghost use Rattle.vw_cell.specs.Places.{FitsAt, IsInWorld, block_side};
-ghost use Rattle.node_words.specs.descent.Answers.{AreRight};
+ghost use Rattle.vw_cell.specs.Places.{FitsAt, block_side};
 ghost use Rattle.node_words.specs.descent.Parts.{EndsBy};
 ghost use Rattle.node_words.specs.descent.Roots.{HasBlock, HoldsRoot, ForBlock, ForWorld, cells_of};
-ghost use Rattle.measure.specs.Faces.{passes_exposed};
-ghost use Rattle.measure.specs.Tallies.{IsWholeTally};
 ghost use Rattle.extract.specs.Listing.{voxels_joined};
 ghost use Rattle.extract.specs.Layers.{IsRow, IsSmallLayer, HasRoom, AppendsVoxels, leaves_along, leaves_in};
+ghost use Rattle.extract.specs.Sides.{AreFound};
 ghost use Rattle.extract.specs.Surface.{bare_sides_of, layer_of_sides, row_of_sides, surface_of_box, voxel_of_sides};
-ghost use Rattle.extract.specs.BareLayers.{HoldsSlab, IsAny, IsRowUnset, leaf_at, leaf_sides, part_of_row, run_of_sides};
+ghost use Rattle.extract.specs.BareLayers.{HoldsSlab, IsAny, IsRowUnset, leaf_at, part_of_row, run_of_sides};
 
-use crate::bare_layers::{BareLeaf, Slab, gather_slab, leaf_of, sides_at};
+use crate::alike::Found;
+use crate::bare_layers::{BareLeaf, Slab, gather_slab, leaf_of};
+use crate::bare_rows::{row_sides, sides_in};
 use crate::rows::{row_start, run_length};
-use measure::{ExposedSides, WholeBlock};
-use node_words::{Answers, Blocks, Name, Share, leaf_has, name_of};
+use node_words::{Blocks, Name, Share, name_of};
 use vox_read::Voxel;
 use vw_cell::{Boxed, Cell, Memory, Side};
 
@@ -66,12 +65,12 @@ fn slabs_in<B: Blocks>(
     ensures seen { B.seen store.new ≡ B.seen store.old }
     ensures rests { B.rests store.old store.new }
 {
-    let mut wholes = Answers::new();
+    let mut found = Found::new();
     let mut slab = Slab::new();
     let mut z = 0;
     while z < b.size.z {
         let n = run_length(b.at.z + z, b.size.z - z);
-        if !slab_in(store, &mut wholes, level, block, b, z, n, &mut slab, into) {
+        if !slab_in(store, &mut found, level, block, b, z, n, &mut slab, into) {
             return false;
         }
         z += n;
@@ -83,7 +82,7 @@ fn slabs_in<B: Blocks>(
 // nothing is appended.
 fn slab_in<B: Blocks>(
     store: &mut B,
-    wholes: &mut Answers<WholeBlock<ExposedSides>>,
+    found: &mut Found,
     level: u8,
     block: Option<Name>,
     b: Boxed,
@@ -99,15 +98,13 @@ fn slab_in<B: Blocks>(
     requires some { 1 ≤ n }
     requires z { z + n ≤ b.size.z }
     requires layer { (k : ℕ) → k < n → (b.at.z + (z + k)) / 4 ≡ (b.at.z + z) / 4 }
-    requires wholes { AreRight
-        (IsWholeTally passes_exposed) (B.seen store.old).held wholes.old.places }
+    requires found { AreFound (B.seen store.old).held found.old }
     ensures voxels { IsTrue result → ForBlock (B.seen store.old).held level block
         (λ s. into.new.items ≡ into.old.items ++ voxels_joined n
         (λ k. layer_of_sides (bare_sides_of (block_side level) (cells_of level s)) b (z + k))) }
     ensures none { IsFalse result → into.new.items ≡ into.old.items }
     ensures block { HasBlock (B.seen store.new).held level block }
-    ensures wholes { AreRight
-        (IsWholeTally passes_exposed) (B.seen store.old).held wholes.new.places }
+    ensures found { AreFound (B.seen store.old).held found.new }
     ensures seen { B.seen store.new ≡ B.seen store.old }
     ensures rests { B.rests store.old store.new }
 {
@@ -115,7 +112,7 @@ fn slab_in<B: Blocks>(
     if into.reserve(most).is_err() {
         return false;
     }
-    gather_slab(store, wholes, level, block, b, z, slab);
+    gather_slab(store, found, level, block, b, z, slab);
     layers_in_room(slab, b, z, n, into);
     true
 }
@@ -263,7 +260,7 @@ fn run_in_room(slab: &Slab, m: usize, at: Cell, n: u16, to: Cell, into: &mut Vec
     if is_row_blank(any, at) {
         return;
     }
-    cells_in_room(leaf_of(&slab.words, m), any, at, n, to, into);
+    cells_in_room(leaf_of(&slab.words, m), at, n, to, into);
 }
 
 // Whether no cell of the row of a leaf that has this cell is among these.
@@ -278,36 +275,21 @@ fn is_row_blank(any: u64, at: Cell) -> bool
 }
 
 // Appends those cells of a row of a leaf that have bare sides.
-fn cells_in_room(leaf: BareLeaf, any: u64, at: Cell, n: u16, to: Cell, into: &mut Vec<Voxel>)
-    requires any { IsAny leaf any }
+fn cells_in_room(leaf: BareLeaf, at: Cell, n: u16, to: Cell, into: &mut Vec<Voxel>)
     requires row { IsRow 4 at n }
     requires to { (to.x + n ≤ 256) × (to.y < 256) × (to.z < 256) }
     requires room { HasRoom into.old (length (run_of_sides leaf at n to)) }
     ensures { AppendsVoxels (run_of_sides leaf at n to) into.old into.new }
 {
+    let row = row_sides(leaf, at.y, at.z);
     for p in 0..n {
-        let c = Cell { x: at.x + p, ..at };
-        cell_in_room(leaf, any, c, Cell { x: to.x + p, ..to }, into);
+        let sides = sides_in(row, at.x + p);
+        push_sides(sides, Cell { x: to.x + p, ..to }, into);
     }
-}
-
-// Appends one cell, if it has a bare side.
-#[inline(always)]
-fn cell_in_room(leaf: BareLeaf, any: u64, c: Cell, to: Cell, into: &mut Vec<Voxel>)
-    requires any { IsAny leaf any }
-    requires c { IsInWorld 4 c }
-    requires to { (to.x < 256) × (to.y < 256) × (to.z < 256) }
-    requires room { HasRoom into.old (length (voxel_of_sides (leaf_sides leaf c) to.x to.y to.z)) }
-    ensures { AppendsVoxels (voxel_of_sides (leaf_sides leaf c) to.x to.y to.z) into.old into.new }
-{
-    if !leaf_has(any, c) {
-        return;
-    }
-    let sides = sides_at(leaf, c);
-    push_sides(sides, to, into);
 }
 
 // Appends a voxel where a side is bare.
+#[inline(always)]
 fn push_sides(sides: u8, c: Cell, into: &mut Vec<Voxel>)
     requires c { (c.x < 256) × (c.y < 256) × (c.z < 256) }
     requires room { HasRoom into.old (length (voxel_of_sides sides c.x c.y c.z)) }

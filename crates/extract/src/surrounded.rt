@@ -1,30 +1,28 @@
-ghost use Rattle.std.specs.Prelude.{◌≡◌, ◌-◌, ◌<◌, ◌≤◌, IsTrue, None, Bool, Option, if◌then◌else◌};
+ghost use Rattle.std.specs.Prelude.{◌≡◌, ◌≤◌, IsTrue, None, Bool};
 ghost use Rattle.vw_cell.specs.declared.cells.Cell.{Cell};
 ghost use Rattle.vw_cell.specs.declared.directions.Direction.{Direction};
-ghost use Rattle.node_words.specs.declared.shapes.names.Name.{Name};
 ghost use Rattle.node_words.specs.descent.Answers.{AreRight};
-ghost use Rattle.node_words.specs.descent.Roots.{IsOctantOf};
-ghost use Rattle.measure.specs.Exposed.{PassesExposed, across, stays};
 ghost use Rattle.measure.specs.Faces.{passes_exposed};
 ghost use Rattle.measure.specs.Leaves.{BitsPassTest};
-ghost use Rattle.measure.specs.Tallies.{IsWholeTally, PassesNone, in_octant};
-ghost use Rattle.extract.specs.Sides.{HasSides, beside_of, leaf_towards, sided};
+ghost use Rattle.measure.specs.Tallies.{IsWholeTally, PassesNone};
+ghost use Rattle.extract.specs.Sides.{AreFound, HasSides, beside_of, leaf_towards, sided};
 
+use crate::alike::{Alike, Found, number_of};
 use crate::bare_layers::BareLeaf;
 use measure::{ExposedSides, Subject, WholeBlock, passes_none};
-use node_words::{Answers, Blocks, Name, octant_name, same_names};
+use node_words::{Answers, Blocks, Name, same_names};
 use vw_cell::Direction;
 
 /// What stands in a block, and beside it in each direction.
 #[derive(Clone, Copy)]
 pub(crate) struct Surrounded {
     pub(crate) block: Option<Name>,
-    low_x: Option<Name>,
-    high_x: Option<Name>,
-    low_y: Option<Name>,
-    high_y: Option<Name>,
-    low_z: Option<Name>,
-    high_z: Option<Name>,
+    pub(crate) low_x: Option<Name>,
+    pub(crate) high_x: Option<Name>,
+    pub(crate) low_y: Option<Name>,
+    pub(crate) high_y: Option<Name>,
+    pub(crate) low_z: Option<Name>,
+    pub(crate) high_z: Option<Name>,
 }
 
 impl Surrounded {
@@ -69,70 +67,6 @@ impl Surrounded {
         }
     }
 
-    /// What stands in an octant, of which the name is known, and beside it.
-    #[inline(always)]
-    pub(crate) fn octant<B: Blocks>(
-        &self,
-        store: &mut B,
-        level: u8,
-        octant: u8,
-        block: Option<Name>,
-    ) -> Surrounded
-        requires level { 1 ≤ level }
-        requires octant { octant < 8 }
-        requires block { HasSides (B.seen store.old).held level self.now }
-        requires child { IsOctantOf (B.seen store.old).held level self.now.block octant block }
-        ensures octant { (d : Direction) (test : Cell → Bool)
-            → passes_exposed (B.seen store.old).held level (sided self.now d) test
-            → passes_exposed (B.seen store.old).held (level - 1) (sided result d)
-            (in_octant level octant test) }
-        ensures seen { B.seen store.new ≡ B.seen store.old }
-        ensures rests { B.rests store.old store.new }
-    {
-        let low_x = self.across(store, Direction::LowX, level, octant);
-        let high_x = self.across(store, Direction::HighX, level, octant);
-        let low_y = self.across(store, Direction::LowY, level, octant);
-        let high_y = self.across(store, Direction::HighY, level, octant);
-        let low_z = self.across(store, Direction::LowZ, level, octant);
-        let high_z = self.across(store, Direction::HighZ, level, octant);
-        Surrounded {
-            block,
-            low_x,
-            high_x,
-            low_y,
-            high_y,
-            low_z,
-            high_z,
-        }
-    }
-
-    // What stands beside an octant in one direction.
-    #[inline(always)]
-    fn across<B: Blocks>(
-        &self,
-        store: &mut B,
-        direction: Direction,
-        level: u8,
-        octant: u8,
-    ) -> Option<Name>
-        requires level { 1 ≤ level }
-        requires octant { octant < 8 }
-        requires block { HasSides (B.seen store.old).held level self.now }
-        ensures beside { (child : Option Name) (test : Cell → Bool)
-            → IsOctantOf (B.seen store.old).held level self.now.block octant child
-            → PassesExposed direction (B.seen store.old).held level self.now.block
-            (beside_of self.now direction) test
-            → PassesExposed direction (B.seen store.old).held (level - 1) child result
-            (in_octant level octant test) }
-        ensures block { HasSides (B.seen store.new).held level self.now }
-        ensures seen { B.seen store.new ≡ B.seen store.old }
-        ensures rests { B.rests store.old store.new }
-    {
-        let beside = self.beside(direction);
-        let from = either(stays(direction, octant), self.block, beside);
-        octant_name(store, level, from, across(direction, octant))
-    }
-
     /// The cells of a leaf that are bare towards each direction.
     #[inline(always)]
     pub(crate) fn leaf<B: Blocks>(&self, store: &mut B) -> BareLeaf
@@ -174,9 +108,55 @@ impl Surrounded {
         towards.leaf(store)
     }
 
-    /// Whether no cell of the block is bare in any direction. It may miss that none is.
+    /// Whether no cell of the block is bare in any direction, which is asked only where the same
+    /// stands beside it everywhere. It may miss that none is.
     #[inline(always)]
-    pub(crate) fn is_hidden<B: Blocks>(
+    pub(crate) fn is_hidden<B: Blocks>(&self, store: &mut B, found: &mut Found, level: u8) -> bool
+        requires level { (1 ≤ level) × (level ≤ 10) }
+        requires block { HasSides (B.seen store.old).held level self.now }
+        requires found { AreFound (B.seen store.old).held found.old }
+        ensures none { IsTrue result → (d : Direction) (test : Cell → Bool)
+            → passes_exposed (B.seen store.old).held level (sided self.now d) test
+            → PassesNone level test }
+        ensures block { HasSides (B.seen store.new).held level self.now }
+        ensures found { AreFound (B.seen store.old).held found.new }
+        ensures seen { B.seen store.new ≡ B.seen store.old }
+        ensures rests { B.rests store.old store.new }
+    {
+        if !self.is_even() {
+            return false;
+        }
+        self.is_hidden_alike(store, found, level)
+    }
+
+    // The same, where the same stands beside it everywhere.
+    fn is_hidden_alike<B: Blocks>(&self, store: &mut B, found: &mut Found, level: u8) -> bool
+        requires level { (1 ≤ level) × (level ≤ 10) }
+        requires even { (d : Direction) → beside_of self.now d ≡ self.now.block }
+        requires block { HasSides (B.seen store.old).held level self.now }
+        requires found { AreFound (B.seen store.old).held found.old }
+        ensures none { IsTrue result → (d : Direction) (test : Cell → Bool)
+            → passes_exposed (B.seen store.old).held level (sided self.now d) test
+            → PassesNone level test }
+        ensures block { HasSides (B.seen store.new).held level self.now }
+        ensures found { AreFound (B.seen store.old).held found.new }
+        ensures seen { B.seen store.new ≡ B.seen store.old }
+        ensures rests { B.rests store.old store.new }
+    {
+        let query = Alike {
+            block: self.block,
+            level,
+        };
+        if let Some(number) = found.alike.find(&query) {
+            return number > 0;
+        }
+        let hidden = self.hides_all(store, &mut found.wholes, level);
+        found.alike.keep(query, number_of(hidden));
+        hidden
+    }
+
+    // Whether no cell is bare in any direction. It may miss that none is.
+    fn hides_all<B: Blocks>(
         &self,
         store: &mut B,
         wholes: &mut Answers<WholeBlock<ExposedSides>>,
@@ -195,9 +175,6 @@ impl Surrounded {
         ensures seen { B.seen store.new ≡ B.seen store.old }
         ensures rests { B.rests store.old store.new }
     {
-        if !self.is_even() {
-            return false;
-        }
         if !self.hides(store, wholes, Direction::LowX, level) {
             return false;
         }
@@ -219,10 +196,11 @@ impl Surrounded {
         true
     }
 
-    // Whether the same stands in the block and beside it. No answer depends on it: where it is
-    // false, `hides` would say so of one direction.
+    // Whether the same stands in the block and beside it everywhere.
     #[inline(always)]
-    fn is_even(&self) -> bool {
+    fn is_even(&self) -> bool
+        ensures { IsTrue result → (d : Direction) → beside_of self.now d ≡ self.now.block }
+    {
         same_names(self.block, self.low_x)
             && same_names(self.block, self.high_x)
             && same_names(self.block, self.low_y)
@@ -257,59 +235,3 @@ impl Surrounded {
         passes_none(store, wholes, towards, level)
     }
 }
-
-#[inline(always)]
-fn either(first: bool, a: Option<Name>, b: Option<Name>) -> Option<Name>
-    ensures { result ≡ (if first then a else b) }
-{
-    if first { a } else { b }
-}
-
-// The octant that has the places next to an octant's further side, in its block or in the one
-// beside.
-#[inline(always)]
-fn across(direction: Direction, octant: u8) -> u8
-    requires { octant < 8 }
-    ensures octant { result ≡ across direction octant }
-    ensures below { result < 8 }
-{
-    match direction {
-        Direction::LowX | Direction::HighX => other_half(octant % 2, 1, octant),
-        Direction::LowY | Direction::HighY => other_half(octant / 2 % 2, 2, octant),
-        Direction::LowZ | Direction::HighZ => other_half(octant / 4 % 2, 4, octant),
-    }
-}
-
-// Whether that octant is one of the same block.
-#[inline(always)]
-fn stays(direction: Direction, octant: u8) -> bool
-    ensures { result ≡ stays direction octant }
-{
-    match direction {
-        Direction::LowX => octant % 2 != 0,
-        Direction::HighX => octant % 2 == 0,
-        Direction::LowY => octant / 2 % 2 != 0,
-        Direction::HighY => octant / 2 % 2 == 0,
-        Direction::LowZ => octant / 4 % 2 != 0,
-        Direction::HighZ => octant / 4 % 2 == 0,
-    }
-}
-
-// The octant in the other half, for an octant of this half, where the halves' octants are `step`
-// apart.
-#[inline(always)]
-fn other_half(half: u8, step: u8, octant: u8) -> u8
-    requires half { half < 2 }
-    requires step { step ≤ 4 }
-    requires octant { octant < 8 }
-    requires within { half ≡ 1 → step ≤ octant }
-    ensures { result ≡ other_half half step octant }
-{
-    if half == 0 {
-        octant + step
-    } else {
-        octant - step
-    }
-}
-
-ghost use Rattle.measure.specs.Exposed.{other_half};

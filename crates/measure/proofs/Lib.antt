@@ -1,10 +1,11 @@
 mod LeafCounts
 mod LeafParts
 mod TallyLaws
+mod EightLeaves
 pub mod SubjectLaws
 mod AxisLaws
-mod BareLaws
-mod BareLeaves
+pub mod BareLaws
+pub mod BareLeaves
 pub mod FaceLaws
 pub mod WideningLaws
 mod PruningLaws

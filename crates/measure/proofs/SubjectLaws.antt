@@ -1,21 +1,22 @@
 -- What counts in a block, of nothing, of a leaf and of an octant.
-use Rattle.std.proofs.Common.{◌≡◌, ℕ, ◌-◌, ◌<◌, ◌≤◌, None, Option, List, Bool, refl, sym, ap, subst, ◌∙◌}
+use Rattle.std.proofs.Common.{◌≡◌, ℕ, ◌-◌, ◌<◌, ◌≤◌, None, Option, List, Bool, refl, sym, ap, subst, ◌∙◌, arith}
 use Rattle.vw_cell.specs.declared.cells.Cell.{Cell}
-use Rattle.vw_cell.specs.Places.{block_side}
+use Rattle.vw_cell.specs.Places.{block_side, IsInWorld}
 use Rattle.vw_cell.specs.declared.boxes.Boxed.{Boxed}
 use Rattle.vw_cell.specs.Counts.{cell_at, number_in}
 use Rattle.node_words.specs.declared.shapes.names.Name.{Name}
-use Rattle.node_words.specs.shapes.Shape.{Shape, bits_of}
+use Rattle.node_words.specs.shapes.Shape.{Shape, bits_of, octant_shape}
 use Rattle.node_words.specs.shapes.Tree.{Tree, shape_of, child_of}
 use Rattle.node_words.proofs.OfShapes.ShapeLaws.{has-clear}
 use Rattle.node_words.proofs.OfShapes.TreeLaws.{shape_of-child}
+use Rattle.node_words.specs.Held.{bits_of_leaf}
 use Rattle.node_words.specs.descent.Roots.{IsBlockOf, IsOctantOf, HasBlock, ForBlock, HoldsRoot, ForWorld, cells_of}
 use Rattle.node_words.specs.descent.Parts.{placed}
 use Rattle.node_words.proofs.OfDescent.BlockLaws.{clear_block, root_block}
 use Rattle.node_words.proofs.OfDescent.PartLaws.{placed_in}
 use Rattle.node_words.proofs.OfDescent.LookLaws.{leaf_tells, placed_set}
 use Rattle.measure.specs.Leaves.{BitsPassTest}
-use Rattle.measure.specs.Tallies.{in_octant, PassesNone}
+use Rattle.measure.specs.Tallies.{in_octant, LeavesPassTest, PassesNone}
 use Rattle.measure.specs.Subjects.{PassesSet}
 
 pub nothing_set : (held : List Tree) (level : ℕ) (block : Option Name) (test : Cell → Bool)
@@ -46,6 +47,23 @@ octant_set held level k block child test h lt octant p = record {
   shows = λ c i. p.shows (placed (block_side (level - 1)) k c) (placed_in level k c h lt i)
       ∙ placed_set level (shape_of p.tree) k c h lt i
       ∙ ap (λ (s : Shape). cells_of (level - 1) s c) (sym (shape_of-child p.tree k));
+}
+
+-- so of all leaves below a block at once
+pub leaves_set : (held : List Tree) (block : Option Name) (leaves : List ℕ) (test : Cell → Bool)
+    → ForBlock held 1 block
+    (λ s. (k : ℕ) → k < 8 → bits_of_leaf leaves k ≡ bits_of (octant_shape s k))
+    → PassesSet held 1 block test → LeavesPassTest 8 leaves test
+leaves_set held block leaves test told p = record {
+  each = λ k lt. record {
+    each = λ x y z lx ly lz.
+        (let c = cell_at x y z in
+        let inside : IsInWorld (block_side 0) c = record { x = lx; y = ly; z = lz } in
+        leaf_tells (octant_shape (shape_of p.tree) k) (bits_of_leaf leaves k) c
+        (told p.tree p.is_block k lt)
+        ∙ sym (placed_set 1 (shape_of p.tree) k c (omega arith) lt inside)
+        ∙ sym (p.shows (placed (block_side 0) k c) (placed_in 1 k c (omega arith) lt inside)));
+  };
 }
 
 -- what is set in a block

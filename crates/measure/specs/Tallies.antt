@@ -1,10 +1,12 @@
 -- Numbers of the cells of a part of a block that count, by what is known of the block.
-use Rattle.std.specs.Prelude.{◌≡◌, ℕ, ◌-◌, Bool, false, List}
+use Rattle.std.specs.Prelude.{◌≡◌, ℕ, ◌-◌, ◌<◌, Bool, false, List}
 use Rattle.vw_cell.specs.declared.cells.Cell.{Cell}
 use Rattle.vw_cell.specs.Places.{block_side, IsInWorld}
 use Rattle.vw_cell.specs.Counts.{number_in}
 use Rattle.node_words.specs.shapes.Tree.{Tree}
+use Rattle.node_words.specs.Held.{bits_of_leaf}
 use Rattle.node_words.specs.descent.Parts.{placed, part_in, whole_of}
+use Rattle.measure.specs.Leaves.{BitsPassTest}
 use Rattle.measure.specs.declared.tallies.Part.{Part}
 use Rattle.measure.specs.declared.wholes.WholeBlock.{WholeBlock}
 
@@ -16,6 +18,10 @@ Counting S = List Tree → ℕ → S → (Cell → Bool) → Type 0
 -- the same test, of the cells of an octant
 abbrev pub in_octant : ℕ → ℕ → (Cell → Bool) → Cell → Bool
 in_octant level k test c = test (placed (block_side (level - 1)) k c)
+
+-- of the first leaves of a block of eight, by octant, the bits are those of the cells that pass
+pub record LeavesPassTest (number : ℕ) (leaves : List ℕ) (test : Cell → Bool) : Type 0 where
+  pub each : (k : ℕ) → k < number → BitsPassTest (bits_of_leaf leaves k) (in_octant 1 k test)
 
 -- no cell of a block of this level passes
 pub record PassesNone (level : ℕ) (test : Cell → Bool) : Type 0 where

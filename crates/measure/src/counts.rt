@@ -6,7 +6,8 @@ ghost use Rattle.measure.specs.Subjects.{PassesSet};
 
 use crate::tallies::{Part, Subject, tally};
 use node_words::{
-    Answers, Blocks, Name, Share, descend, leaf_bits, leaf_has, name_of, octant_name, same_names,
+    Answers, Blocks, Name, Share, descend, leaf_bits, leaf_has, name_of, octant_bits, octant_name,
+    same_names,
 };
 use vw_cell::{Boxed, Cell, Side};
 
@@ -78,6 +79,10 @@ impl Subject for SetCells {
 
     fn leaf<B: Blocks>(&self, store: &mut B) -> u64 {
         leaf_bits(store, self.block)
+    }
+
+    fn leaves<B: Blocks>(&self, store: &mut B) -> [u64; 8] {
+        octant_bits(store, self.block)
     }
 
     fn octant<B: Blocks>(&self, store: &mut B, level: u8, octant: u8) -> SetCells {

@@ -123,6 +123,7 @@ impl Subject for ExposedSides {
         self.block.is_none()
     }
 
+    #[inline(always)]
     fn leaf<B: Blocks>(&self, store: &mut B) -> u64 {
         let bits = leaf_bits(store, self.block);
         let beside = leaf_bits(store, self.beside);
@@ -193,9 +194,10 @@ fn either(first: bool, a: Option<Name>, b: Option<Name>) -> Option<Name>
     if first { a } else { b }
 }
 
-// The octant that has the places next to an octant's further side, in its block or in the one
-// beside.
-fn across(direction: Direction, octant: u8) -> u8
+/// The octant that has the places next to an octant's further side, in its block or in the one
+/// beside.
+#[inline(always)]
+pub fn across(direction: Direction, octant: u8) -> u8
     requires { octant < 8 }
     ensures octant { result ≡ across direction octant }
     ensures below { result < 8 }
@@ -207,8 +209,9 @@ fn across(direction: Direction, octant: u8) -> u8
     }
 }
 
-// Whether that octant is one of the same block.
-fn stays(direction: Direction, octant: u8) -> bool
+/// Whether that octant is one of the same block.
+#[inline(always)]
+pub fn stays(direction: Direction, octant: u8) -> bool
     ensures { result ≡ stays direction octant }
 {
     match direction {
@@ -221,8 +224,9 @@ fn stays(direction: Direction, octant: u8) -> bool
     }
 }
 
-// Which cells of a leaf have a set cell next to them in this direction.
-fn next_bits(direction: Direction, bits: u64, beside: u64) -> u64
+/// Which cells of a leaf have a set cell next to them in this direction.
+#[inline(always)]
+pub fn next_bits(direction: Direction, bits: u64, beside: u64) -> u64
     ensures next { (s u : Shape) → bits ≡ bits_of s → beside ≡ bits_of u
         → BitsPassTest result (is_next_set direction 0 s u) }
     ensures bound { result < 2 ^ 64 }
@@ -239,6 +243,7 @@ fn next_bits(direction: Direction, bits: u64, beside: u64) -> u64
 
 // The octant in the other half, for an octant of this half, where the halves' octants are `step`
 // apart.
+#[inline(always)]
 fn other_half(half: u8, step: u8, octant: u8) -> u8
     requires half { half < 2 }
     requires step { step ≤ 4 }

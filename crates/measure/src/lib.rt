@@ -22,7 +22,7 @@ mod wholes;
 pub use blanks::passes_none;
 pub use counts::{SetCells, count, get};
 pub use differences::{changes, changes_in};
-pub use exposed_sides::{ExposedSides, faces};
+pub use exposed_sides::{ExposedSides, across, faces, next_bits, stays};
 pub use extents::{bounds, bounds_in};
 pub use tallies::Subject;
 pub use wholes::WholeBlock;

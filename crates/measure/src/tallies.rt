@@ -6,7 +6,7 @@ ghost use Rattle.node_words.specs.shapes.Tree.{Tree};
 ghost use Rattle.node_words.specs.descent.Answers.{AreRight};
 ghost use Rattle.node_words.specs.descent.Parts.{EndsBy, part_in};
 ghost use Rattle.measure.specs.Leaves.{BitsPassTest};
-ghost use Rattle.measure.specs.Tallies.{in_octant, PassesNone, IsTally, IsWholeTally, IsOctantTally};
+ghost use Rattle.measure.specs.Tallies.{in_octant, LeavesPassTest, PassesNone, IsTally, IsWholeTally, IsOctantTally};
 
 use crate::leaf_parts::tally_leaf_parts;
 use crate::leaves::count_leaf;
@@ -32,6 +32,22 @@ pub trait Subject: Copy {
             → BitsPassTest result test }
         ensures seen { B.seen store.new ≡ B.seen store.old }
         ensures rests { B.rests store.old store.new };
+
+    /// The bits that count of the leaves below a block of eight, by octant.
+    fn leaves<B: Blocks>(&self, store: &mut B) -> [u64; 8]
+        requires block { (test : Cell → Bool) × counts (B.seen store.old).held 1 self.now test }
+        ensures leaves { (test : Cell → Bool) → counts (B.seen store.old).held 1 self.now test
+            → LeavesPassTest 8 result test }
+        ensures seen { B.seen store.new ≡ B.seen store.old }
+        ensures rests { B.rests store.old store.new }
+    {
+        let mut leaves = [0; 8];
+        for octant in 0..8u8 {
+            let subject = self.octant(store, 1, octant);
+            leaves[usize::from(octant)] = subject.leaf(store);
+        }
+        leaves
+    }
 
     /// What stands in an octant.
     fn octant<B: Blocks>(&self, store: &mut B, level: u8, octant: u8) -> Self

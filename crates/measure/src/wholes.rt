@@ -109,7 +109,7 @@ fn tally_whole_octants<S: Subject, B: Blocks>(
     number
 }
 
-// The same of a block of eight leaves, which are read side by side: none waits for another.
+// The same of a block of eight leaves, whose bits are read at once.
 fn tally_leaves<S: Subject, B: Blocks>(store: &mut B, of: WholeBlock<S>) -> u64
     requires level { of.level ≡ 1 }
     requires block { (test : Cell → Bool)
@@ -118,11 +118,11 @@ fn tally_leaves<S: Subject, B: Blocks>(store: &mut B, of: WholeBlock<S>) -> u64
     ensures seen { B.seen store.new ≡ B.seen store.old }
     ensures rests { B.rests store.old store.new }
 {
+    let leaves = of.subject.leaves(store);
+    let whole = whole_block(0);
     let mut number = 0;
-    for octant in 0..8u8 {
-        let subject = of.subject.octant(store, 1, octant);
-        let bits = subject.leaf(store);
-        number += count_leaf(bits, whole_block(0));
+    for octant in 0..8usize {
+        number += count_leaf(leaves[octant], whole);
     }
     number
 }

@@ -4,7 +4,7 @@ use Rattle.std.specs.Prelude.{◌≡◌, ◌≢◌, ℕ, ◌+◌, ◌*◌, ◌<�
 use Rattle.node_words.specs.declared.shapes.names.Name.{Name}
 use Rattle.node_words.specs.shapes.Shape.{Shape, Clear, IsBranch, IsCanonical, IsPart}
 use Rattle.node_words.specs.shapes.Buckets.{bucket_of_shape}
-use Rattle.node_words.specs.shapes.Tree.{Tree, root_of, shape_of, node_at, IsSubtree, IsTreeAt}
+use Rattle.node_words.specs.shapes.Tree.{Tree, root_of, child_of, bits_in, shape_of, node_at, IsSubtree, IsTreeAt}
 use Rattle.node_words.specs.shapes.Weights.{weigh, weight_below}
 use Rattle.node_words.specs.Plans.{Layout, buckets_at}
 
@@ -85,6 +85,18 @@ pub record SameHeld (old new : List Tree) : Type 0 where
 -- the name of the child in an octant
 abbrev pub name_in : List (Option Name) → ℕ → Option Name
 name_in children octant = slice_index_or children octant None
+
+-- the names are those of a node's children, by octant, none where nothing stands
+pub record AreChildNames (t : Tree) (names : List (Option Name)) : Type 0 where
+  pub each : (k : ℕ) → k < 8 → name_in names k ≡ root_of (child_of t k)
+
+-- the bits of the leaf in an octant
+abbrev pub bits_of_leaf : List ℕ → ℕ → ℕ
+bits_of_leaf leaves octant = slice_index_or leaves octant 0
+
+-- the bits are those of the leaves below a node, by octant, 0 where nothing stands
+pub record AreChildBits (t : Tree) (leaves : List ℕ) : Type 0 where
+  pub each : (k : ℕ) → k < 8 → bits_of_leaf leaves k ≡ bits_in (child_of t k)
 
 -- the trees of a row are those of the children, and each share is held, counted with repeats
 pub record AreHeld (held : List Tree) (children : List (Option Name))

@@ -16,7 +16,7 @@ mod parts;
 mod sameness;
 
 pub use answers::{Answers, Query};
-pub use blocks::{half_side, leaf_bits, name_of, octant_name};
+pub use blocks::{half_side, leaf_bits, name_of, octant_bits, octant_name, octant_names};
 pub use landings::{Landing, descend};
 pub use laws::{octants_count_their_cells, parts_have_the_cells_of_their_box};
 pub use looks::{leaf_has, look, whole_block};

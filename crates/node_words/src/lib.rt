@@ -22,8 +22,8 @@ mod under;
 pub use contents::{cells_have_one_shape, shapes_go_by_octants, some_shapes_are_known};
 pub use descent::{
     Answers, Landing, Query, descend, half_side, is_empty, leaf_bits, leaf_has, look, name_of,
-    octant_name, octants_count_their_cells, part_of, parts_have_the_cells_of_their_box, same_boxes,
-    same_cells, same_names, whole_block,
+    octant_bits, octant_name, octant_names, octants_count_their_cells, part_of,
+    parts_have_the_cells_of_their_box, same_boxes, same_cells, same_names, whole_block,
 };
 pub use kernels::{
     ball_bits, box_bits, leaves_lie_across_eight, leaves_show_their_cells, window_bits,

@@ -3,7 +3,7 @@ ghost use Rattle.node_words.specs.shapes.Shape.{Leaf, branch_of};
 ghost use Rattle.node_words.specs.shapes.Tree.{LeafAt, root_of, bits_in, child_of, shape_of, node_at};
 ghost use Rattle.node_words.specs.shapes.Weights.{number_of_trees};
 ghost use Rattle.node_words.specs.declared.shapes.names.Name.{Name};
-ghost use Rattle.node_words.specs.Held.{StoreState, IsReached, HoldsName, ReachesName, ForHeld, ForReached, Gains, HoldsChildren, ForChildren, HasChild, AreBelow, Joins, OnlyHeldChanges, OnlyMeets, Grants, AreTrees, AreCanonical, ReturnsWithin, most_before_release};
+ghost use Rattle.node_words.specs.Held.{StoreState, IsReached, HoldsName, ReachesName, ForHeld, ForReached, Gains, HoldsChildren, ForChildren, HasChild, AreBelow, Joins, OnlyHeldChanges, OnlyMeets, Grants, AreTrees, AreCanonical, AreChildNames, AreChildBits, ReturnsWithin, most_before_release};
 
 use crate::shapes::Name;
 use crate::shares::{Full, NodeRefused, Share};
@@ -36,6 +36,24 @@ pub trait Blocks {
         requires octant { octant < 8 }
         ensures child { ForReached (seen self.old).held n
             (λ t. result ≡ root_of (child_of t octant)) }
+        ensures trees { AreTrees (seen self.old).plan.side (seen self.old).held }
+        ensures seen { seen self.new ≡ seen self.old }
+        ensures rests { rests self.old self.new };
+
+    /// The names of the children by octant, none where an octant is clear.
+    fn children_at(&mut self, n: Name) -> [Option<Name>; 8]
+        requires reached { ReachesName (seen self.old).held n }
+        requires level { 1 ≤ n.level }
+        ensures children { ForReached (seen self.old).held n (λ t. AreChildNames t result) }
+        ensures trees { AreTrees (seen self.old).plan.side (seen self.old).held }
+        ensures seen { seen self.new ≡ seen self.old }
+        ensures rests { rests self.old self.new };
+
+    /// The bits of the leaves below a node by octant, 0 where an octant is clear.
+    fn leaves_at(&mut self, n: Name) -> [u64; 8]
+        requires reached { ReachesName (seen self.old).held n }
+        requires level { n.level ≡ 1 }
+        ensures leaves { ForReached (seen self.old).held n (λ t. AreChildBits t result) }
         ensures trees { AreTrees (seen self.old).plan.side (seen self.old).held }
         ensures seen { seen self.new ≡ seen self.old }
         ensures rests { rests self.old self.new };

@@ -1,5 +1,5 @@
 -- What the calls of a store promise.
-use Rattle.std.proofs.Common.{◌≡◌, ◌≢◌, ℕ, zero, suc, ◌+◌, ◌-◌, ◌*◌, ◌^◌, ◌≤◌, ◌<◌, Some, ◌∷◌, refl, sym, ◌∙◌, ap, subst, arith, inl, inr}
+use Rattle.std.proofs.Common.{◌≡◌, ◌≢◌, ℕ, zero, suc, ◌+◌, ◌-◌, ◌*◌, ◌^◌, ◌≤◌, ◌<◌, Option, Some, None, ◌∷◌, refl, sym, ◌∙◌, ap, subst, arith, inl, inr}
 use Rattle.std.specs.Prelude.{Result, Ok, Err, IfOk, IfErr, OnOk}
 use Rattle.std.proofs.lemmas.Option.{none-some}
 use Rattle.node_words.specs.declared.shapes.names.Name.{Name}
@@ -8,13 +8,14 @@ use Rattle.node_words.specs.shapes.Shape.{Shape, Clear, branch_of, IsCanonical}
 use Rattle.node_words.specs.shapes.Buckets.{bucket_of_shape}
 use Rattle.node_words.specs.shapes.Tree.{Tree, LeafAt, node_at, root_of, child_of, shape_of, bits_in}
 use Rattle.node_words.specs.shapes.Weights.{number_of_trees, weight_of, weight_below}
-use Rattle.node_words.proofs.OfShapes.TreeLaws.{child_of-node_at}
+use Rattle.node_words.proofs.OfShapes.TreeLaws.{child_of-node_at, gone_from_root}
 use Rattle.node_words.proofs.OfShapes.WeightLaws.{weight_of-there}
 use Rattle.node_words.specs.declared.keys.Key.{Key}
 use Rattle.node_words.specs.declared.keys.Key.TheVariants.{Leaf}
 use Rattle.node_words.specs.Plans.{Layout}
 use Rattle.node_words.specs.Held.{IsHeld, IsReached, HoldsName, ReachesName, AreTrees, AreCanonical, Gains, OnlyHeldChanges, OnlyMeets, Grants, ReturnsWithin, IsSought}
 use Rattle.node_words.specs.Keys.{bucket_of_key, of_leaf}
+use Rattle.node_words.proofs.HeldLaws.{reached_child}
 use Rattle.node_words.proofs.KeyLaws.{key_bucket}
 use Rattle.core_laws.specs.places.WordIds.{levels, buckets_at}
 use Rattle.core_laws.specs.places.Names.{HasNames, key_bits, key_child}
@@ -26,11 +27,12 @@ use Rattle.core_laws.specs.LiveTrees.{AreLiveTrees}
 use Rattle.core_laws.proofs.Frees.{returns_within}
 use Rattle.core_laws.proofs.SeenNodes.{leaf_tree}
 use Rattle.core_laws.proofs.Standings.{parts_stand, standing_trees, standing_canonical}
-use Rattle.one_store.specs.entries.Words.{Written, book_in, key_in, HasEntry}
+use Rattle.one_store.specs.entries.Words.{Written, book_in, key_in, child_bits, HasEntry}
 use Rattle.one_store.specs.notes.Changes.{HoldsRow}
 use Rattle.one_store.specs.declared.sought.SoughtKey.{SoughtKey}
 use Rattle.one_store.specs.Known.{Known, IsStore, known_state, core_of, tree_in, trees_below}
 use Rattle.one_store.specs.Steps.{Moves, RaisesShare, Releases, AddsNode, MeetsFull, IsSoughtKey, sought_key, tree_over, shape_over}
+use Rattle.one_store.proofs.OfEntries.ReadLaws.{child_below}
 use Rattle.one_store.proofs.StateLaws.{row_root, standing_at}
 use Rattle.one_store.proofs.StoreLaws.{held_name, held_is, book_moves, same_plan, same_keys}
 use Rattle.one_store.proofs.BackLaws.{leaf_row, leaf_none, leaf_key, live_names, node_tree}
@@ -74,6 +76,23 @@ store_child v number t n k s above lt r e =
     sym (row_root (key_in v.words) (n.level - 1) (key_child (key_in v.words n) k))
     ∙ ap root_of (sym (child_of-node_at n row k lt))
     ∙ ap (λ (u : Tree). root_of (child_of u k)) node
+
+-- the bits of a leaf below a node that is reached
+leaf_in : (v : Known) (number : ℕ) (t : Tree) (o : Option Name) → IsStore v number
+    → IsReached v.told.held t → root_of t ≡ o → ((m : Name) → o ≡ Some m → m.level ≡ 0)
+    → child_bits v.words o ≡ bits_in t
+leaf_in v number t None s r e levels = sym (ap bits_in (gone_from_root t e))
+leaf_in v number t (Some m) s r e levels = store_bits v number t m s (levels m refl) r e
+
+pub store_leaf : (v : Known) (number : ℕ) (t : Tree) (n : Name) (k : ℕ) → IsStore v number
+    → n.level ≡ 1 → k < 8 → IsReached v.told.held t → root_of t ≡ Some n
+    → child_bits v.words (key_child (key_in v.words n) k) ≡ bits_in (child_of t k)
+store_leaf v number t n k s one lt r e =
+    leaf_in v number (child_of t k) (key_child (key_in v.words n) k) s
+    (reached_child v.told.held t k r)
+    (sym (store_child v number t n k s (omega (arith, one)) lt r e))
+    (λ m q. (let l = child_below n.level _ _ k m (omega (arith, one)) lt q in
+    omega (arith, l, one)))
 
 -- a share of what is reached comes
 pub raised_gains : (old new : Known) (number : ℕ) (t : Tree) (n : Name) → IsStore old number

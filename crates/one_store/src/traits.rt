@@ -25,6 +25,16 @@ impl Blocks for OneStore {
         self.words.child(n, octant)
     }
 
+    fn children_at(&mut self, n: Name) -> [Option<Name>; 8] {
+        let _number = self.number();
+        self.words.children(n)
+    }
+
+    fn leaves_at(&mut self, n: Name) -> [u64; 8] {
+        let _number = self.number();
+        self.words.leaves(n)
+    }
+
     ghost rests_itself = { spares_itself };
 
     ghost rests_on = { spares_on };

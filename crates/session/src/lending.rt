@@ -35,6 +35,16 @@ impl<'a, R> Blocks for Hand<'a, R> {
         self.table.child_at(self.session, n, octant)
     }
 
+    fn children_at(&mut self, n: Name) -> [Option<Name>; 8] {
+        self.session.tell();
+        self.table.children_at(self.session, n)
+    }
+
+    fn leaves_at(&mut self, n: Name) -> [u64; 8] {
+        self.session.tell();
+        self.table.leaves_at(self.session, n)
+    }
+
     ghost rests_itself = { lent_itself };
 
     ghost rests_on = { lent_on };

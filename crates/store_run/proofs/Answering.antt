@@ -49,9 +49,9 @@ records_as old new log = ap (λ (l : Log). l.records) log ∙ sym (append-nil ol
 -- what fits, whatever has run so far
 abbrev pub FitsSoFar : Versions → ℕ → ScriptLine → Answer → Type 0
 FitsSoFar v session l answer =
-    (scripts : List (List ScriptLine)) (transcripts : List (List LineAnswer))
+    (keep since : ℕ) (scripts : List (List ScriptLine)) (transcripts : List (List LineAnswer))
     (script : List ScriptLine) (transcript : List LineAnswer)
-    → IsSoFar (plan_of v) v.models.models scripts transcripts script transcript (log_of v)
+    → IsSoFar since keep (plan_of v) v.models.models scripts transcripts script transcript (log_of v)
     → length scripts ≡ session → IsAfter script l
     → Answers (plan_of v) v.models.models (log_of v)
     (IsUnforgotten (log_of v).marks session l.line (moment_of v)) session l.line
@@ -68,17 +68,17 @@ rests v w session l answer are leaves resting none fits = record {
   plan = leaves.stay.spares.plan;
   more = [];
   records = records_as v w leaves.stay.log;
-  goes_on = λ scripts transcripts script transcript running number after. (
+  goes_on = λ keep since scripts transcripts script transcript running within number after. (
       let p = plan_of v in
       let models = v.models.models in
       let first = last_moment 0 transcript in
       let line =
-      resting_arm p models session first l (log_of v) answer
+      resting_arm 0 p models session first l (log_of v) answer
       (noted_of v) are.sound.legal resting none
-      (fits scripts transcripts script transcript running.so_far number after) in
-      subst (λ (new : Log). TakesLine p models session first l (log_of v) new (noted_of v)
+      (fits keep since scripts transcripts script transcript running.so_far number after) in
+      subst (λ (new : Log). TakesLine 0 p models session first l (log_of v) new (noted_of v)
       (noted_of w) (answer_at l (length new.records) answer)) (sym leaves.stay.log)
-      (subst (λ (now : MadeAndMet). TakesLine p models session first l (log_of v) (log_of v)
+      (subst (λ (now : MadeAndMet). TakesLine 0 p models session first l (log_of v) (log_of v)
       (noted_of v) now (answer_at l (moment_of v) answer))
       (sym (noted_as v w leaves.only.made leaves.only.met)) line));
 }
@@ -90,20 +90,20 @@ pub names_missing : (v : Versions) (session : ℕ) (l : ScriptLine) (version : �
     → Names (IsUnforgotten (log_of v).marks session l.line (moment_of v))
     (moment_of v) l.command version
     → FitsSoFar v session l (answers.NoVersion version)
-names_missing v session l version past names scripts transcripts script transcript so_far number after =
+names_missing v session l version past names keep since scripts transcripts script transcript so_far number after =
     no_version l.command version names past
 
 forgotten_now : (v : Versions) (session : ℕ) (l : ScriptLine) (version : ℕ)
     (mark : IsVersionMarked v version)
-    (scripts : List (List ScriptLine)) (transcripts : List (List LineAnswer))
+    (keep since : ℕ) (scripts : List (List ScriptLine)) (transcripts : List (List LineAnswer))
     (script : List ScriptLine) (transcript : List LineAnswer)
-    → IsSoFar (plan_of v) v.models.models scripts transcripts script transcript (log_of v)
+    → IsSoFar since keep (plan_of v) v.models.models scripts transcripts script transcript (log_of v)
     → length scripts ≡ session → IsAfter script l
     → IsForgotten (log_of v).marks session l.line (moment_of v) version
-forgotten_now v session l version mark scripts transcripts script transcript so_far number after =
+forgotten_now v session l version mark keep since scripts transcripts script transcript so_far number after =
     subst (λ (n : ℕ). IsForgotten (log_of v).marks session l.line (moment_of v) n) mark.same
     (subst (λ (k : ℕ). IsForgotten (log_of v).marks k l.line (moment_of v) mark.mark.version) number
-    (marked_forgotten (plan_of v) v.models.models scripts transcripts script transcript l
+    (marked_forgotten since keep (plan_of v) v.models.models scripts transcripts script transcript l
     (log_of v) mark.mark so_far after mark.listed))
 
 pub readable_now : (v : Versions) (session line version : ℕ) → HoldsVersion (log_of v) version
@@ -128,19 +128,19 @@ module _ (v w : Versions) (session line : ℕ) (act : Act) (once : Bool) (are : 
     plan = meets.stay.spares.plan;
     more = [];
     records = records_as v w meets.stay.log;
-    goes_on = λ scripts transcripts script transcript running number after. (
+    goes_on = λ keep since scripts transcripts script transcript running within number after. (
         let first = last_moment 0 transcript in
         let low =
-        before_within (plan_of v) v.models.models scripts transcripts script transcript
+        before_within since keep (plan_of v) v.models.models scripts transcripts script transcript
         (log_of v) (noted_of v) running in
         let l : ScriptLine = record { line = line; command = Edit act once } in
         let done =
-        full_arm (plan_of v) v.models.models session first line act once full.level full.bucket
+        full_arm 0 (plan_of v) v.models.models session first line act once full.level full.bucket
         (log_of v) (known_state v.store) (known_state w.store)
         are.sound.legal refl low
         (meets_full v act are edit full.level full.bucket (known_state v.store)
         (known_state w.store) meets.fails) in
-        subst (λ (new : Log). TakesLine (plan_of v) v.models.models session first l (log_of v) new
+        subst (λ (new : Log). TakesLine 0 (plan_of v) v.models.models session first l (log_of v) new
         (noted_of v) (noted_of w)
         (answer_at l (length new.records) (answers.Full full.level full.bucket)))
         (sym meets.stay.log) done);
@@ -158,10 +158,10 @@ module _ (v w : Versions) (session line : ℕ) (act : Act) (once : Bool) (are : 
         ∙ ap
         (λ (l : Log). l.records ++
         record { session = session; line = line; act = act } ∷ []) makes.stay.log;
-    goes_on = λ scripts transcripts script transcript running number after. (
+    goes_on = λ keep since scripts transcripts script transcript running within number after. (
         let first = last_moment 0 transcript in
         let low =
-        before_within (plan_of v) v.models.models scripts transcripts script transcript
+        before_within since keep (plan_of v) v.models.models scripts transcripts script transcript
         (log_of v) (noted_of v) running in
         let l : ScriptLine = record { line = line; command = Edit act once } in
         let r : Record = record { session = session; line = line; act = act } in
@@ -183,7 +183,7 @@ module _ (v w : Versions) (session line : ℕ) (act : Act) (once : Bool) (are : 
         let longer : moment_of w ≡ moment_of v + 1 =
         ap (λ (rs : List Record). length rs) grows.records
         ∙ length-append v.records.items (r ∷ []) in
-        subst (λ (n : ℕ). TakesLine (plan_of v) v.models.models session first l (log_of v)
+        subst (λ (n : ℕ). TakesLine 0 (plan_of v) v.models.models session first l (log_of v)
         (log_of w) (noted_of v) (noted_of w) (answer_at l n answers.Done)) (sym longer) done);
   }
 
@@ -196,10 +196,10 @@ module _ (v w : Versions) (session line : ℕ) (act : Act) (once : Bool) (are : 
     plan = leaves.stay.spares.plan ∙ makes.stay.spares.plan;
     more = [];
     records = records_as v w (leaves.stay.log ∙ makes.stay.log);
-    goes_on = λ scripts transcripts script transcript running number after. (
+    goes_on = λ keep since scripts transcripts script transcript running within number after. (
         let first = last_moment 0 transcript in
         let low =
-        before_within (plan_of v) v.models.models scripts transcripts script transcript
+        before_within since keep (plan_of v) v.models.models scripts transcripts script transcript
         (log_of v) (noted_of v) running in
         let l : ScriptLine = record { line = line; command = Edit act once } in
         let grew : Grew (Wants v act) v.store.told.made w.store.told.made =
@@ -207,11 +207,11 @@ module _ (v w : Versions) (session line : ℕ) (act : Act) (once : Bool) (are : 
         (sym leaves.only.made)
         (grew_wanted v act are edit v.store.told.made u.store.told.made makes.grows.made) in
         let done =
-        late_arm (plan_of v) v.models.models session first line act once (log_of v)
+        late_arm 0 (plan_of v) v.models.models session first line act once (log_of v)
         (noted_of v) (noted_of w)
         are.sound.legal (sym (moment_as v u makes.stay.log) ∙ all) edit low grew
         (leaves.only.met ∙ makes.grows.met) in
-        subst (λ (new : Log). TakesLine (plan_of v) v.models.models session first l (log_of v) new
+        subst (λ (new : Log). TakesLine 0 (plan_of v) v.models.models session first l (log_of v) new
         (noted_of v) (noted_of w) (answer_at l (length new.records) answers.LogFull))
         (sym (leaves.stay.log ∙ makes.stay.log)) done);
   }
@@ -241,7 +241,7 @@ go_done v u w session line act once to root shares appends = record {
       ∙ ap
       (λ (l : Log). l.records ++
       record { session = session; line = line; act = act } ∷ []) shares.stay.log;
-  goes_on = λ scripts transcripts script transcript running number after. (
+  goes_on = λ keep since scripts transcripts script transcript running within number after. (
       let first = last_moment 0 transcript in
       let l : ScriptLine = record { line = line; command = Edit act once } in
       let r : Record = record { session = session; line = line; act = act } in
@@ -258,11 +258,11 @@ go_done v u w session line act once to root shares appends = record {
       let longer : moment_of w ≡ moment_of v + 1 =
       ap (λ (rs : List Record). length rs) grows.records
       ∙ length-append v.records.items (r ∷ []) in
-      subst (λ (now : MadeAndMet). TakesLine (plan_of v) v.models.models session first l (log_of v)
+      subst (λ (now : MadeAndMet). TakesLine 0 (plan_of v) v.models.models session first l (log_of v)
       (log_of w) (noted_of v) now (answer_at l (moment_of w) answers.Done))
       (sym (noted_as v w (appends.only.only.made ∙ shares.only.made)
       (appends.only.only.met ∙ shares.only.met)))
-      (subst (λ (n : ℕ). TakesLine (plan_of v) v.models.models session first l (log_of v)
+      (subst (λ (n : ℕ). TakesLine 0 (plan_of v) v.models.models session first l (log_of v)
       (log_of w) (noted_of v) (noted_of v) (answer_at l n answers.Done)) (sym longer) done));
 }
 
@@ -270,7 +270,7 @@ module _ (v : Versions) (session line : ℕ) (act : Act) (once : Bool) (are : Ar
     (other : is_edit act ≡ false) where
   nothing_fits : target_at v.records.items (moment_of v) act ≡ None
       → FitsSoFar v session (record { line = line; command = Edit act once }) (nothing_to_go_to act)
-  nothing_fits none scripts transcripts script transcript so_far number after = go act other none
+  nothing_fits none keep since scripts transcripts script transcript so_far number after = go act other none
     where
       go : (a : Act) → is_edit a ≡ false → target_at v.records.items (moment_of v) a ≡ None
           → Answers (plan_of v) v.models.models (log_of v)
@@ -327,10 +327,10 @@ module _ (v : Versions) (session line : ℕ) (act : Act) (once : Bool) (are : Ar
   go_forgotten to goes mark =
       rests v v session (record { line = line; command = Edit act once })
       (answers.Forgotten to) are (gave_nothing v) refl refl
-      (λ scripts transcripts script transcript so_far number after. forgotten
+      (λ keep since scripts transcripts script transcript so_far number after. forgotten
       (Edit act once) to goes
       (forgotten_now v session
-      (record { line = line; command = Edit act once }) to mark.1 scripts transcripts script transcript so_far number after))
+      (record { line = line; command = Edit act once }) to mark.1 keep since scripts transcripts script transcript so_far number after))
 
   pub go_past : (to : ℕ) (answer : Answer) → target_at v.records.items (moment_of v) act ≡ Some to
       → moment_of v < to
@@ -344,7 +344,7 @@ module _ (v : Versions) (session line : ℕ) (act : Act) (once : Bool) (are : Ar
   go_late to goes kept all =
       rests v v session (record { line = line; command = Edit act once }) answers.LogFull are
       (gave_nothing v) refl refl
-      (λ scripts transcripts script transcript so_far number after. log_full act once all
+      (λ keep since scripts transcripts script transcript so_far number after. log_full act once all
       (λ _. (to, goes, readable_now v session line to kept)))
 
 -- ---- forgetting
@@ -362,19 +362,19 @@ forgot_version v w session line version at now marks = record {
   plan = marks.only.plan;
   more = [];
   records = marks.forgets.records ∙ sym (append-nil v.records.items);
-  goes_on = λ scripts transcripts script transcript running number after. (
+  goes_on = λ keep since scripts transcripts script transcript running within number after. (
       let first = last_moment 0 transcript in
       let l : ScriptLine = record { line = line; command = Forget version } in
       let mark : Mark = record { version = version; at = at; session = session; line = line } in
       let done =
-      forgot_arm (plan_of v) v.models.models first mark (log_of v) (log_of w)
+      forgot_arm 0 (plan_of v) v.models.models first mark (log_of v) (log_of w)
       (noted_of v) marks.forgets in
       let same : moment_of w ≡ moment_of v =
       ap (λ (rs : List Record). length rs) marks.forgets.records in
-      subst (λ (now : MadeAndMet). TakesLine (plan_of v) v.models.models session first l (log_of v)
+      subst (λ (now : MadeAndMet). TakesLine 0 (plan_of v) v.models.models session first l (log_of v)
       (log_of w) (noted_of v) now (answer_at l (moment_of w) (answers.Forgot version)))
       (sym (noted_as v w marks.only.only.made marks.only.only.met))
-      (subst (λ (n : ℕ). TakesLine (plan_of v) v.models.models session first l (log_of v)
+      (subst (λ (n : ℕ). TakesLine 0 (plan_of v) v.models.models session first l (log_of v)
       (log_of w) (noted_of v) (noted_of v) (answer_at l n (answers.Forgot version)))
       (sym same) done));
 }
@@ -385,7 +385,7 @@ module _ (v : Versions) (session line : ℕ) (are : AreStoredVersions v) where
   forgets_head version is =
       rests v v session (record { line = line; command = Forget version }) answers.IsHead are
       (gave_nothing v) refl refl
-      (λ scripts transcripts script transcript so_far number after.
+      (λ keep since scripts transcripts script transcript so_far number after.
       subst (λ (n : ℕ). Answers (plan_of v) v.models.models (log_of v)
       (IsUnforgotten (log_of v).marks session line (moment_of v)) session line (moment_of v)
       (Forget n) answers.IsHead) (sym is) is_head)
@@ -404,7 +404,7 @@ module _ (v : Versions) (session line : ℕ) (are : AreStoredVersions v) where
   forget_marked version mark =
       rests v v session (record { line = line; command = Forget version })
       (answers.Forgotten version) are (gave_nothing v) refl refl
-      (λ scripts transcripts script transcript so_far number after. forgotten
+      (λ keep since scripts transcripts script transcript so_far number after. forgotten
       (Forget version) version refl
       (forgotten_now v session
-      (record { line = line; command = Forget version }) version mark.1 scripts transcripts script transcript so_far number after))
+      (record { line = line; command = Forget version }) version mark.1 keep since scripts transcripts script transcript so_far number after))

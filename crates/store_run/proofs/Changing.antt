@@ -173,7 +173,7 @@ makes_version models old new r is =
           (goes_to old r.act to goes.other goes.goes).goes;
     }
 
-nothing_not_done : (act : Act) → nothing_to_go_to act ≡ answers.Done → ⊥
+pub nothing_not_done : (act : Act) → nothing_to_go_to act ≡ answers.Done → ⊥
 nothing_not_done Undo e = cc
 nothing_not_done Redo e = cc
 nothing_not_done (Fill b) e = cc

@@ -25,3 +25,4 @@ pub mod TintChanges
 pub mod TintComparing
 pub mod Flooding
 pub mod SeenCells
+pub mod Keeping

@@ -21,7 +21,7 @@ use Rattle.script.specs.declared.commands.ScriptLine.{ScriptLine}
 use Rattle.transcript.specs.declared.answers.Answer.{Answer}
 use Rattle.conformance.specs.Kinds.{answer_at}
 use Rattle.conformance.specs.QuestionAnswers.{AnswersTo}
-use Rattle.conformance.specs.scripts.Sessions.{ExtendsWith}
+use Rattle.conformance.specs.scripts.Sessions.{ExtendsBefore}
 use Rattle.store_run.specs.declared.stored_versions.Versions.{Versions}
 use Rattle.store_run.specs.Kept.{plan_of, log_of, moment_of, noted_of, world_of, tints_of, AreStoredVersions, AreVersions, HoldsTree}
 use Rattle.store_run.specs.Steps.{StayVersions, AnswersHeldVersion, side_of}
@@ -58,10 +58,10 @@ module _ (v w : Versions) (s : WorldState) (is : world_state v ≡ s) (session :
   pub changed_models : w.models.models ≡ s.models
   changed_models = g.models ∙ ap (λ (t : WorldState). t.models) is
 
-  pub changed_goes : ExtendsWith s.plan s.models session l s.log (log_of w) s.noted (noted_of w)
+  pub changed_goes : ExtendsBefore s.plan s.models session l s.log (log_of w) s.noted (noted_of w)
       (answer_at l (moment_of w) answer)
   changed_goes =
-      subst (λ (t : WorldState). ExtendsWith t.plan t.models session l t.log (log_of w) t.noted
+      subst (λ (t : WorldState). ExtendsBefore t.plan t.models session l t.log (log_of w) t.noted
       (noted_of w) (answer_at l (moment_of w) answer)) is g.goes_on
 
 module _ (v w : Versions) (s : WorldState) (is : world_state v ≡ s) (r : Record) (answer : Answer)

@@ -1,5 +1,5 @@
 -- What a change that is asked for makes of a history, answer by answer.
-use Rattle.std.specs.Prelude.{◌≡◌, ℕ, ◌+◌, ◌<◌, ◌≤◌, true, false, Some, None, List, [], ◌∷◌, ◌++◌, length}
+use Rattle.std.specs.Prelude.{◌≡◌, ◌≢◌, ℕ, ◌+◌, ◌<◌, ◌≤◌, true, false, Some, None, List, [], ◌∷◌, ◌++◌, length}
 use Rattle.vw_cell.specs.declared.cells.Cell.{Cell}
 use Rattle.vox_read.specs.Contents.{Content}
 use Rattle.history_model.specs.declared.acts.Act.{Act}
@@ -9,11 +9,14 @@ use Rattle.history_model.specs.Logs.{Log}
 use Rattle.history_model.specs.Worlds.{is_edit, edited}
 use Rattle.history_model.specs.Moments.{world_has, world_tint}
 use Rattle.history_model.specs.Tints.{tints_by}
+use Rattle.node_words.specs.Plans.{Layout}
 use Rattle.core_laws.specs.contents.Versions.{HoldsVersion, InsertsMark}
 use Rattle.transcript.specs.declared.answers.Answer.{Answer}
 use Rattle.transcript.specs.declared.answers.Answer.TheVariants as answers
 use Rattle.conformance.specs.Answers.{target_at}
+use Rattle.conformance.specs.Running.{PushesOut}
 use Rattle.store_run.specs.Answering.{nothing_to_go_to}
+use Rattle.store_run.specs.Worlds.{WorldState}
 
 -- the history with one more record
 abbrev pub log_with_record : Log → Record → Log
@@ -48,6 +51,25 @@ pub data Changes (log : Log) (r : Record) : Answer → Log → Type 0 where
   nothing : (new : Log) → is_edit r.act ≡ false
       → target_at log.records (length log.records) r.act ≡ None → new ≡ log
       → Changes log r (nothing_to_go_to r.act) new
+
+-- an act is answered where the last `keep` versions alone are held, with 0 all: where it becomes a
+-- record, the version that this pushes out gets its mark, by the record's session and line, where it
+-- has none
+pub record ChangesKeeping (keep : ℕ) (p : Layout) (models : List Content) (log : Log) (r : Record)
+    (answer : Answer) (new : Log) : Type 0 where
+  pub before : Log
+  pub changes : Changes log r answer before
+  pub pushes : answer ≡ answers.Done → PushesOut keep p models r.session r.line before new
+  pub stays : answer ≢ answers.Done → new ≡ before
+
+-- the version that the newest record pushed out is forgotten, as this line of this session, where
+-- it has no mark; nothing else changes
+pub record ForgetsFallen (keep : ℕ) (old : WorldState) (session line : ℕ)
+    (new : WorldState) : Type 0 where
+  pub plan : new.plan ≡ old.plan
+  pub models : new.models ≡ old.models
+  pub noted : new.noted ≡ old.noted
+  pub pushes : PushesOut keep old.plan old.models session line old.log new.log
 
 -- the mark comes to its version, and nothing else changes
 pub record LogGainsMark (log : Log) (mark : Mark) (new : Log) : Type 0 where

@@ -7,11 +7,13 @@ ghost use Rattle.script.specs.declared.commands.Command.TheVariants.{Edit, Forge
 ghost use Rattle.conformance.specs.Answers.{target_at, mark_of};
 ghost use Rattle.store_run.specs.Kept.{log_of, moment_of, AreStoredVersions, HoldsSame, HasRecordRoom};
 ghost use Rattle.store_run.specs.Answering.{ExtendsBy, nothing_to_go_to};
-ghost use Rattle.store_run.specs.Changing.{Changes, AnswersForget};
+ghost use Rattle.store_run.specs.Changing.{Changes, AnswersForget, ForgetsFallen};
+ghost use Rattle.store_run.specs.Worlds.{world_state};
 
 use crate::stored_versions::{RECORDS, VersionFound, Versions};
 use history_model::{Act, Mark, Record};
 use node_words::Steps;
+use retain::falls_out;
 use std::sync::ledger::Ledger;
 use transcript::Answer;
 
@@ -134,6 +136,41 @@ impl Versions {
                 };
                 self.forget(mark, steps);
                 Answer::Forgot(version)
+            }
+        }
+    }
+
+    /// Forgets the version that the newest record pushed out of the last `keep`, as this line of
+    /// this session, where it has no mark.
+    #[tactic(auto, using(crate::proofs::Keeping::none_fell, crate::proofs::Keeping::fallen_earlier, crate::proofs::Holding::same_held))]
+    pub(crate) fn forget_fallen<L: Ledger>(
+        &mut self,
+        session: u16,
+        line: u32,
+        keep: u32,
+        steps: &mut Steps<L>,
+    )
+        requires are { AreStoredVersions self.old }
+        requires few { number_of_trees self.old.store.told.held ≤ 2048 }
+        ensures are { AreStoredVersions self.new }
+        ensures falls { ForgetsFallen keep (world_state self.old) session line
+            (world_state self.new) }
+        ensures same { HoldsSame self.old.store self.new.store }
+    {
+        let at = self.moment();
+        let Some(version) = falls_out(at, keep) else {
+            return;
+        };
+        match self.find(version) {
+            VersionFound::NotThere | VersionFound::Marked => {}
+            VersionFound::Kept => {
+                let mark = Mark {
+                    version,
+                    at,
+                    session,
+                    line,
+                };
+                self.forget(mark, steps);
             }
         }
     }

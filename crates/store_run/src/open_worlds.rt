@@ -1,5 +1,5 @@
 //! A world that stands open, and is changed and asked one call at a time.
-ghost use Rattle.std.specs.Prelude.{◌≡◌, ◌↔◌, ◌/◌, ◌<◌, ◌≤◌, ◌^◌, Bool, [], All, Some, IfOk, IfSome, IsTrue, OnErr, length, map, option_copied, true, false};
+ghost use Rattle.std.specs.Prelude.{◌≡◌, ◌↔◌, ◌/◌, ◌<◌, ◌≤◌, ◌^◌, ℕ, Bool, [], All, Some, IfOk, IfSome, IsTrue, OnErr, length, map, option_copied, true, false};
 ghost use Rattle.std.specs.List.{slice_get};
 ghost use Rattle.vw_cell.specs.Places.{FitsAt, IsInBox};
 ghost use Rattle.vw_cell.specs.Extents.{IsExtent};
@@ -19,10 +19,10 @@ ghost use Rattle.transcript.specs.declared.answers.Answer.TheVariants.{Done};
 ghost use Rattle.conformance.specs.Answers.{mark_of};
 ghost use Rattle.conformance.specs.Kinds.{answer_at};
 ghost use Rattle.conformance.specs.QuestionAnswers.{AnswersTo};
-ghost use Rattle.conformance.specs.scripts.Sessions.{ExtendsWith};
+ghost use Rattle.conformance.specs.scripts.Sessions.{ExtendsBefore, ExtendsWith};
 ghost use Rattle.one_store.specs.Known.{stored_root};
 ghost use Rattle.store_run.specs.Answering.{ExtendsBy};
-ghost use Rattle.store_run.specs.Changing.{Changes, AnswersForget, MakesVersion};
+ghost use Rattle.store_run.specs.Changing.{Changes, ChangesKeeping, ForgetsFallen, AnswersForget, MakesVersion};
 ghost use Rattle.store_run.specs.Kept.{log_of, moment_of, world_of, HasRecordRoom, AreVersions, HoldsTree, IsLargeStore};
 ghost use Rattle.store_run.specs.Steps.{LeavesAll, StaysSeen, AnswersHeldVersion, side_of};
 ghost use Rattle.store_run.specs.TintChanges.{tints_differ};
@@ -148,7 +148,7 @@ impl OpenWorld {
         }
     }
 
-    /// Does what the act asks for, as this line of this session.
+    /// Does what the act asks for, as this line of this session. All versions are held.
     pub fn change(&mut self, session: u16, line: u32, act: Act) -> Result<Answer, Memory>
         requires suits { suits_tints self.old.log.coloured act ≡ true }
         requires fits { FitsWorld (2 ^ self.old.plan.side) self.old.models act }
@@ -159,7 +159,7 @@ impl OpenWorld {
         ensures makes { IfOk result (λ answer. answer ≡ Done
             → MakesVersion self.old.models self.old.log act self.new.log) }
         ensures goes_on { IfOk result (λ answer. (once : Bool)
-            → ExtendsWith self.old.plan self.old.models session
+            → ExtendsBefore self.old.plan self.old.models session
             (record { line = line; command = Edit act once }) self.old.log self.new.log
             self.old.noted self.new.noted
             (answer_at (record { line = line; command = Edit act once })
@@ -171,13 +171,56 @@ impl OpenWorld {
         Ok(answer)
     }
 
-    /// Forgets a version, as this line of this session.
+    /// The same where the last `keep` versions alone are held, with 0 all: what the act's record
+    /// pushes out is forgotten by its line.
+    #[tactic(auto, using(crate::proofs::Keeping::other_makes, crate::proofs::Keeping::kept_logs, crate::proofs::Keeping::other_logs))]
+    pub fn change_keeping(
+        &mut self,
+        session: u16,
+        line: u32,
+        act: Act,
+        keep: u32,
+    ) -> Result<Answer, Memory>
+        requires suits { suits_tints self.old.log.coloured act ≡ true }
+        requires fits { FitsWorld (2 ^ self.old.plan.side) self.old.models act }
+        ensures plan { self.new.plan ≡ self.old.plan }
+        ensures models { self.new.models ≡ self.old.models }
+        ensures logs { IfOk result (λ answer. ChangesKeeping keep self.old.plan self.old.models
+            self.old.log (record { session = session; line = line; act = act }) answer
+            self.new.log) }
+        ensures makes { IfOk result (λ answer. answer ≡ Done
+            → MakesVersion self.old.models self.old.log act self.new.log) }
+        ensures goes_on { IfOk result (λ answer. (once : Bool)
+            → ExtendsWith keep self.old.plan self.old.models session
+            (record { line = line; command = Edit act once }) self.old.log self.new.log
+            self.old.noted self.new.noted
+            (answer_at (record { line = line; command = Edit act once })
+            (length self.new.log.records) answer)) }
+        ensures same { OnErr result (self.new ≡ self.old) }
+    {
+        let answer = self.change(session, line, act)?;
+        if !is_done(answer) {
+            return Ok(answer);
+        }
+        self.forget_fallen(session, line, keep);
+        Ok(answer)
+    }
+
+    // Forgets the version that the newest record pushed out of the last `keep`.
+    #[tactic(auto, using(crate::proofs::Keeping::fallen_seen))]
+    fn forget_fallen(&mut self, session: u16, line: u32, keep: u32)
+        ensures { ForgetsFallen keep self.old session line self.new }
+    {
+        fallen_over::<Brand>(&mut self.versions, session, line, keep, Blank::new(1));
+    }
+
+    /// Forgets a version, as this line of this session, however many of the last ones are held.
     pub fn forget(&mut self, session: u16, line: u32, version: u32) -> Answer
         ensures plan { self.new.plan ≡ self.old.plan }
         ensures models { self.new.models ≡ self.old.models }
         ensures logs { AnswersForget self.old.log
             (mark_of version (length self.old.log.records) session line) result self.new.log }
-        ensures goes_on { ExtendsWith self.old.plan self.old.models session
+        ensures goes_on { (keep : ℕ) → ExtendsWith keep self.old.plan self.old.models session
             (record { line = line; command = Forget version }) self.old.log self.new.log
             self.old.noted self.new.noted
             (answer_at (record { line = line; command = Forget version })
@@ -413,6 +456,25 @@ fn forget_over<L: Ledger>(
 {
     let mut steps: Steps<L> = Steps::start(blank);
     versions.forget_version(session, line, version, &mut steps)
+}
+
+fn fallen_over<L: Ledger>(versions: &mut Versions, session: u16, line: u32, keep: u32, blank: Blank)
+    requires rest { AreStoredAtRest versions.old }
+    requires name { blank.name ≡ L.name }
+    requires parts { blank.parts ≡ L.parts }
+    requires some { 0 < L.parts }
+    ensures rest { AreStoredAtRest versions.new }
+    ensures falls { ForgetsFallen keep (world_state versions.old) session line
+        (world_state versions.new) }
+{
+    let mut steps: Steps<L> = Steps::start(blank);
+    versions.forget_fallen(session, line, keep, &mut steps);
+}
+
+fn is_done(answer: Answer) -> bool
+    ensures { IsTrue result ↔ (answer ≡ Done) }
+{
+    matches!(answer, Answer::Done)
 }
 
 fn ask_over<L: Ledger>(

@@ -5,6 +5,8 @@
 #[cfg(test)]
 mod buckets;
 #[cfg(test)]
+mod leaf_sides;
+#[cfg(test)]
 mod plans;
 #[cfg(test)]
 mod questions;

@@ -19,6 +19,8 @@ mod dag_tests;
 #[cfg(test)]
 mod files;
 #[cfg(test)]
+mod octants;
+#[cfg(test)]
 mod slot_tests;
 #[cfg(test)]
 mod under;

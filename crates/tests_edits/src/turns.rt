@@ -53,6 +53,14 @@ impl Blocks for TurnStore {
         self.store.child_at(n, octant)
     }
 
+    fn children_at(&mut self, n: Name) -> [Option<Name>; 8] {
+        self.store.children_at(n)
+    }
+
+    fn leaves_at(&mut self, n: Name) -> [u64; 8] {
+        self.store.leaves_at(n)
+    }
+
     ghost rests_itself = { λ a. spares_itself a.store };
 
     ghost rests_on = { λ a b c f g. spares_on a.store b.store c.store f g };

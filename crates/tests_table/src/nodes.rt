@@ -1,4 +1,5 @@
-//! Four threads make and give back nodes over the same few leaves.
+//! What a node over a leaf tells of its octants, and four threads that make and give back nodes over
+//! the same few leaves.
 ghost use Rattle.std.specs.Prelude.{◌≡◌, ◌≢◌, ◌≤◌, ◌<◌, ◌+◌, ℕ, Some, None, All};
 ghost use Rattle.node_words.specs.shapes.Tree.{Tree, root_of};
 ghost use Rattle.node_words.specs.shapes.Weights.{number_of_trees};
@@ -8,10 +9,10 @@ ghost use Rattle.node_words.specs.Held.{ForHeld, Gains, HoldsName, SameHeld, nam
 ghost use Rattle.node_table.specs.Closing.{IsSpare};
 ghost use Rattle.node_table.specs.TableStates.{BelongsTo};
 
-use crate::calls::{begun_small, ended};
+use crate::calls::{begun_small, ended, only_one};
 use crate::closes::closes_blank;
 use node_table::{NodeTable, Pass};
-use node_words::{NodeRefused, Share, Steps, end_all, take_at};
+use node_words::{Name, NodeRefused, Share, Steps, end_all, take_at};
 use std::alloc::Global;
 use std::marker::Brand;
 use std::sync::Wait;
@@ -47,14 +48,56 @@ fn back_first<R: Wait, L: Ledger>(
     }
 }
 
-// The leaf moves into a node over it, which goes back. Says whether the node had room.
+/// What a node tells of its octants.
+#[derive(Clone, Copy, Debug, PartialEq, Eq)]
+struct Octants {
+    names: [Option<Name>; 8],
+    bits: [u64; 8],
+}
+
+fn octants_told(table: &NodeTable, pass: &mut Pass, n: Name) -> Octants
+    requires of { BelongsTo table.now pass.old }
+    requires held { HoldsName pass.old.view.held n }
+    requires level { n.level ≡ 1 }
+    ensures { pass.new ≡ pass.old }
+{
+    let names = table.children_at(pass, n);
+    let bits = table.leaves_at(pass, n);
+    Octants { names, bits }
+}
+
+// What the node tells before it goes back.
+fn told_and_back<R: Wait, L: Ledger>(
+    rt: &R,
+    table: &NodeTable,
+    pass: &mut Pass,
+    node: Share,
+    steps: &mut Steps<L>,
+) -> Octants
+    requires of { BelongsTo table.now pass.old }
+    requires idle { pass.old.view.turn ≡ None }
+    requires held { HoldsName pass.old.view.held node }
+    requires level { node.level ≡ 1 }
+    requires room { number_of_trees pass.old.view.held ≤ 4000 }
+    ensures of { BelongsTo table.now pass.new }
+    ensures idle { pass.new.view.turn ≡ None }
+    ensures log { pass.new.view.log ≡ pass.old.view.log }
+    ensures held { ForHeld pass.old.view.held node
+        (λ t. Gains pass.new.view.held t pass.old.view.held) }
+{
+    let told = octants_told(table, pass, node.name());
+    release::back(rt, table, pass, node, steps);
+    told
+}
+
+// The leaf moves into a node over it, which goes back. Says what the node told, where it had room.
 fn over_and_back<R: Wait, L: Ledger>(
     rt: &R,
     table: &NodeTable,
     pass: &mut Pass,
     leaf: Share,
     steps: &mut Steps<L>,
-) -> bool
+) -> Option<Octants>
     requires of { BelongsTo table.now pass.old }
     requires idle { pass.old.view.turn ≡ None }
     requires side { 3 ≤ table.now.plan.side }
@@ -70,13 +113,13 @@ fn over_and_back<R: Wait, L: Ledger>(
     let children = [Some(leaf), None, None, None, None, None, None, None];
     match intern::node(rt, table, pass, 1, children, steps) {
         Ok(node) => {
-            release::back(rt, table, pass, node, steps);
-            true
+            let told = told_and_back(rt, table, pass, node, steps);
+            Some(told)
         }
         Err(refused) => {
             let NodeRefused { full: _, children } = refused;
             back_first(rt, table, pass, children, steps);
-            false
+            None
         }
     }
 }
@@ -88,7 +131,7 @@ fn comes_over<R: Wait, L: Ledger>(
     pass: &mut Pass,
     bits: u64,
     steps: &mut Steps<L>,
-) -> bool
+) -> Option<Octants>
     requires of { BelongsTo table.now pass.old }
     requires idle { pass.old.view.turn ≡ None }
     requires side { 3 ≤ table.now.plan.side }
@@ -101,8 +144,66 @@ fn comes_over<R: Wait, L: Ledger>(
 {
     match intern::leaf(rt, table, pass, bits, steps) {
         Ok(share) => over_and_back(rt, table, pass, share, steps),
-        Err(_) => false,
+        Err(_) => None,
     }
+}
+
+fn told_once<R: Wait, L: Ledger>(
+    rt: &R,
+    table: &NodeTable,
+    pass: &mut Pass,
+    blank: Blank,
+) -> Option<Octants>
+    requires name { blank.name ≡ L.name }
+    requires parts { blank.parts ≡ L.parts }
+    requires some { 0 < L.parts }
+    requires side { 3 ≤ table.now.plan.side }
+    requires spare { IsSpare table.now pass.old }
+    ensures { IsSpare table.now pass.new }
+{
+    let mut steps: Steps<L> = Steps::start(blank);
+    comes_over(rt, table, pass, 5, &mut steps)
+}
+
+// What a node over the leaf 5, in octant 0, tells in a table of one pass.
+fn told_of<R: Wait>(rt: &R, table: NodeTable, passes: Vec<Pass>) -> Option<Octants>
+    requires { All (IsSpare table) passes.items }
+{
+    if table.plan().side().cells() < 8 {
+        let _number = ended(&table, passes);
+        return None;
+    }
+    match only_one(&table, passes) {
+        Some(mut pass) => {
+            let told = told_once::<R, Brand>(rt, &table, &mut pass, Blank::new(1));
+            pass.end();
+            told
+        }
+        None => None,
+    }
+}
+
+fn new_told<R: Wait>(rt: &R, alloc: Global) -> Option<Octants> {
+    match begun_small(alloc, 2, 1) {
+        Some((table, passes)) => told_of(rt, table, passes),
+        None => None,
+    }
+}
+
+const LEAF: Name = Name {
+    level: 0,
+    bucket: 0,
+    slot: 0,
+};
+
+const TOLD: Octants = Octants {
+    names: [Some(LEAF), None, None, None, None, None, None, None],
+    bits: [5, 0, 0, 0, 0, 0, 0, 0],
+};
+
+#[test]
+fn a_node_tells_its_octants(rt: HostRuntime) {
+    assert_eq!(rt; new_told(&rt, rt.alloc()), Some(TOLD));
 }
 
 // Makes 2,000 nodes, of four that take turns, and gives each back.
@@ -122,7 +223,7 @@ fn make_often<R: Wait, L: Ledger>(rt: &R, table: &NodeTable, pass: &mut Pass, bl
     let mut steps: Steps<L> = Steps::start(blank);
     for k in 0..2_000u32 {
         let bits = u64::from(k % 4) + 1;
-        let _came = comes_over(rt, table, pass, bits, &mut steps);
+        let _told = comes_over(rt, table, pass, bits, &mut steps);
     }
 }
 

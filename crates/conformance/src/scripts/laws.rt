@@ -1,5 +1,6 @@
 ghost use Rattle.conformance.specs.scripts.Statements.{RebuiltEditsTakeLines, UndosTakeLines};
 ghost use Rattle.conformance.specs.scripts.Statements.{LateEditsTakeLines};
+ghost use Rattle.conformance.specs.scripts.Statements.{PushedVersionsTakeLines, OtherLinesTakeLines};
 ghost use Rattle.conformance.specs.scripts.Statements.{ForgettingsTakeLines, FullBucketsTakeLines};
 ghost use Rattle.conformance.specs.scripts.Statements.{RestingAnswersTakeLines, MomentsAreInHistory};
 ghost use Rattle.conformance.specs.scripts.Statements.{PlainTargetsAreWanted, PlainFailuresMeetFull};
@@ -8,6 +9,8 @@ ghost use Rattle.conformance.specs.scripts.Statements.{PlainTargetsAreWanted, Pl
 pub fn arms_take_lines()
     ensures rebuilt { RebuiltEditsTakeLines }
     ensures undone { UndosTakeLines }
+    ensures pushed { PushedVersionsTakeLines }
+    ensures others { OtherLinesTakeLines }
     ensures forgot { ForgettingsTakeLines }
     ensures full { FullBucketsTakeLines }
     ensures late { LateEditsTakeLines }

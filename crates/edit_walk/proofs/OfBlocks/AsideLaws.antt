@@ -6,12 +6,12 @@ use Rattle.node_words.specs.shapes.Tree.{Tree, Gone, LeafAt, root_of, child_of, 
 use Rattle.node_words.specs.shapes.Weights.{weight_of, number_of_trees}
 use Rattle.node_words.proofs.OfShapes.TreeLaws.{gone_at, leaf_at, shape_of-leaf, shape_of-gone, shape_of-child, gone_from_root, level_of, IsTreeAt-below}
 use Rattle.node_words.proofs.OfShapes.WeightLaws.{weigh-cons, weight_of-there, weight_of-gone, weight_below-one}
-use Rattle.node_words.specs.Held.{StoreState, IsHeld, HoldsName, ReachesName, Gains, Grants, OnlyMeets}
+use Rattle.node_words.specs.Held.{StoreState, IsHeld, HoldsName, ReachesName, ForReached, Gains, Grants, OnlyMeets}
 use Rattle.node_words.specs.Gathering.{IsTreeOf, Grew, unchanged, Grows}
 use Rattle.node_words.proofs.HeldLaws.{Keeps, held_reached, reached_child}
 use Rattle.node_words.proofs.GatherLaws.{grows_none, grows_granted}
 use Rattle.node_words.specs.contents.CellShapes.{leaf_shape, full_shape}
-use Rattle.edit_walk.specs.blocks.Blocks.{IsFullBlock, Aside, GainedShare, RefusesBlock}
+use Rattle.edit_walk.specs.blocks.Blocks.{IsFullBlock, ReachesFull, LeadsToFull, Aside, GainedShare, RefusesBlock}
 use Rattle.node_words.proofs.OfContents.LeafBits.{leaf_shape-some}
 use Rattle.node_words.proofs.OfContents.FullShapes.{full_octant, full_leaf}
 
@@ -148,11 +148,28 @@ full_below held t n m f h e =
       },
     )
 
-pub full_next : (a b : StoreState) (t : Tree) (n m : Name) → b ≡ a → IsFullBlock a.held t n → 1 ≤ n.level
-    → root_of (child_of t 0) ≡ Some m → IsFullBlock b.held (child_of t 0) m
-full_next a b t n m q f h e =
-    subst (λ (s : StoreState). IsFullBlock s.held (child_of t 0) m) (sym q)
-    (full_below a.held t n m f h e).1
+-- the next one below a full block that leads on, and it stands one level lower
+pub record StepsToFull (held : List Tree) (n m k : Name) : Type 0 where
+  pub leads : LeadsToFull held n k
+  pub falls : k.level + 1 ≡ m.level
+
+pub full_step : (a b : StoreState) (n m k : Name) (child : Option Name) → b ≡ a
+    → ReachesFull a.held n → LeadsToFull a.held n m → 1 ≤ m.level
+    → ForReached b.held m (λ t. child ≡ root_of (child_of t 0)) → child ≡ Some k
+    → StepsToFull a.held n m k
+full_step a b n m k child q (v, g) leads one is e =
+    let (w, at) = leads v g in
+    record {
+      leads = λ t f.
+          let (u, h) = leads t f in
+          (child_of u 0, (full_below a.held u m k h one (below u h)).1);
+      falls = (full_below a.held w m k at one (below w at)).0;
+    }
+  where
+    below : (u : Tree) → IsFullBlock a.held u m → root_of (child_of u 0) ≡ Some k
+    below u h =
+        let r = subst (λ (s : StoreState). IsFullBlock s.held u m) (sym q) h in
+        sym (is u r.reached r.root) ∙ e
 
 full_not_clear : (level : ℕ) → full_shape level ≢ Clear
 unfolding full_shape

@@ -78,13 +78,16 @@ fn full_name<B: Blocks>(store: &mut B, n: Name, level: u8) -> Name
     ensures seen { B.seen store.new ≡ B.seen store.old }
     ensures rests { B.rests store.old store.new }
 {
-    if n.level == level {
-        return n;
+    let mut at = n;
+    while at.level > level {
+        match store.child_at(at, 0) {
+            Some(below) => {
+                at = below;
+            }
+            None => unreachable!(),
+        }
     }
-    match store.child_at(n, 0) {
-        Some(below) => full_name(store, below, level),
-        None => unreachable!(),
-    }
+    at
 }
 
 fn reaches(full: &Option<Share>, level: u8) -> bool

@@ -1,7 +1,9 @@
-ghost use Rattle.std.specs.Prelude.{◌≡◌, ◌+◌, ◌-◌, ◌<◌, ◌≤◌, ◌↔◌, ℕ, List, IsTrue};
+ghost use Rattle.std.specs.Prelude.{◌≡◌, ◌+◌, ◌-◌, ◌<◌, ◌≤◌, ◌↔◌, ℕ, List, Option, IsTrue};
 ghost use Rattle.node_words.specs.Sums.{sum_below};
 ghost use Rattle.node_words.specs.shapes.Shape.{Leaf, has};
 ghost use Rattle.node_words.specs.shapes.Tree.{Tree};
+ghost use Rattle.node_words.specs.declared.shapes.names.Name.{Name};
+ghost use Rattle.node_words.specs.descent.Roots.{IsOctantOf};
 ghost use Rattle.node_words.specs.contents.CellShapes.{Cells, SameIn, octant_cells};
 ghost use Rattle.edit_walk.specs.cells.Tasks.{Making, Lasts, MakesSome, MakesCells, ForCells, IsWhole};
 ghost use Rattle.edit_walk.specs.cells.Paints.{IsOld};
@@ -47,17 +49,22 @@ pub trait Task: Copy {
 
     ghost mixed_in: { ℕ → Self → ℕ → ℕ };
 
+    /// The name of the block as the task tells it.
+    ghost was: { Self → Option Name };
+
     /// A held block of this level, or none. Where it is the block as it was, an edit that changes
     /// nothing answers it; another one costs shares, and no cell hangs on it.
     fn old(&self) -> Option<Name>
-        ensures { (base : List Tree) (level : ℕ) (cells : Cells) → makes self.now base level cells
-            → (t : Tree) × IsOld base level t result };
+        ensures name { result ≡ was self.now }
+        ensures block { (base : List Tree) (level : ℕ) (cells : Cells)
+            → makes self.now base level cells → (t : Tree) × IsOld base level t result };
 
-    /// The task of an octant.
-    fn octant<B: Blocks>(&self, store: &mut B, level: u8, octant: u8) -> Self
+    /// The task of an octant, of which this is the name in the block that `old` answers.
+    fn octant<B: Blocks>(&self, store: &mut B, level: u8, octant: u8, old: Option<Name>) -> Self
         requires level { 1 ≤ level }
         requires octant { octant < 8 }
         requires task { MakesCells (makes self.now) (B.seen store.old).held level }
+        requires old { IsOctantOf (B.seen store.old).held level (was self.now) octant old }
         ensures task { ForCells (makes self.now) (B.seen store.old).held level
             (λ base cells. makes result base (level - 1) (octant_cells (level - 1) cells octant)) }
         ensures mixed { mixed (level - 1) result ≤ mixed_in level self.now octant }

@@ -1,11 +1,12 @@
 -- From a block to its octants, and from a root to its block.
-use Rattle.std.proofs.Common.{◌≡◌, ℕ, zero, suc, ◌-◌, ◌≤◌, Some, None, Option, List, refl, sym, ap, subst, ◌∙◌, arith}
+use Rattle.std.proofs.Common.{◌≡◌, ℕ, zero, suc, ◌-◌, ◌<◌, ◌≤◌, Some, None, Option, List, [], ◌∷◌, refl, sym, ap, subst, ◌∙◌, arith}
 use Rattle.node_words.specs.declared.shapes.names.Name.{Name}
-use Rattle.node_words.specs.shapes.Shape.{Clear, bits_of}
+use Rattle.node_words.specs.shapes.Shape.{Clear, bits_of, octant_shape}
 use Rattle.node_words.specs.shapes.Tree.{Tree, Gone, LeafAt, NodeAt, root_of, child_of, shape_of, bits_in}
-use Rattle.node_words.specs.Held.{IsReached, ReachesName, AreTrees}
+use Rattle.node_words.specs.Held.{IsReached, ReachesName, AreTrees, AreChildNames, AreChildBits, name_in, bits_of_leaf}
+use Rattle.node_words.proofs.OfShapes.TreeLaws.{shape_of-child}
 use Rattle.node_words.proofs.HeldLaws.{reached_child, child_level, held_reached}
-use Rattle.node_words.specs.descent.Roots.{IsBlockOf, HasBlock, HoldsRoot}
+use Rattle.node_words.specs.descent.Roots.{IsBlockOf, IsOctantOf, HasBlock, HoldsRoot}
 
 pub block_reached : (held : List Tree) (level : ℕ) (n : Name) → HasBlock held level (Some n)
     → ReachesName held n
@@ -103,6 +104,67 @@ child_told side held level block child n k e trees h told t b =
     octant_block side held level n t k child trees h
     (subst (λ (o : Option Name). IsBlockOf held level o t) e b)
     (told t (b.reached n e) (b.root ∙ e))
+
+-- so of all octants at once
+pub children_told : (side : ℕ) (held : List Tree) (level : ℕ) (block : Option Name)
+    (names : List (Option Name)) (n : Name) → block ≡ Some n → AreTrees side held → 1 ≤ level
+    → ((t : Tree) → IsReached held t → root_of t ≡ Some n → AreChildNames t names)
+    → (k : ℕ) → k < 8 → IsOctantOf held level block k (name_in names k)
+children_told side held level block names n e trees h told k lt =
+    child_told side held level block (name_in names k) n k e trees h
+    (λ t r root. (told t r root).each k lt)
+
+none_in : (k : ℕ) → k < 8
+    → name_in (None ∷ None ∷ None ∷ None ∷ None ∷ None ∷ None ∷ None ∷ []) k ≡ None
+none_in zero lt = refl
+none_in (suc zero) lt = refl
+none_in (suc (suc zero)) lt = refl
+none_in (suc (suc (suc zero))) lt = refl
+none_in (suc (suc (suc (suc zero)))) lt = refl
+none_in (suc (suc (suc (suc (suc zero))))) lt = refl
+none_in (suc (suc (suc (suc (suc (suc zero)))))) lt = refl
+none_in (suc (suc (suc (suc (suc (suc (suc zero))))))) lt = refl
+none_in (suc (suc (suc (suc (suc (suc (suc (suc k)))))))) lt = absurd (omega arith)
+
+pub children_clear : (held : List Tree) (level : ℕ) (block : Option Name) → block ≡ None
+    → (k : ℕ) → k < 8 → IsOctantOf held level block k
+    (name_in (None ∷ None ∷ None ∷ None ∷ None ∷ None ∷ None ∷ None ∷ []) k)
+children_clear held level block e k lt t b =
+    subst (λ (o : Option Name). IsBlockOf held (level - 1) o (child_of t k)) (sym (none_in k lt))
+    (no_octant held level t k (subst (λ (o : Option Name). IsBlockOf held level o t) e b))
+
+-- the bits of a leaf in an octant are those of the octant's shape
+octant_leaf : (t : Tree) (k : ℕ) → bits_in (child_of t k) ≡ bits_of (octant_shape (shape_of t) k)
+octant_leaf t k = shape_bits (child_of t k) ∙ ap bits_of (shape_of-child t k)
+
+pub bits_told : (held : List Tree) (block : Option Name) (n : Name) (leaves : List ℕ)
+    → block ≡ Some n
+    → ((t : Tree) → IsReached held t → root_of t ≡ Some n → AreChildBits t leaves)
+    → (t : Tree) → IsBlockOf held 1 block t → (k : ℕ) → k < 8
+    → bits_of_leaf leaves k ≡ bits_of (octant_shape (shape_of t) k)
+bits_told held block n leaves e told t b k lt =
+    (told t (b.reached n e) (b.root ∙ e)).each k lt ∙ octant_leaf t k
+
+zero_in : (k : ℕ) → k < 8 → bits_of_leaf (0 ∷ 0 ∷ 0 ∷ 0 ∷ 0 ∷ 0 ∷ 0 ∷ 0 ∷ []) k ≡ 0
+zero_in zero lt = refl
+zero_in (suc zero) lt = refl
+zero_in (suc (suc zero)) lt = refl
+zero_in (suc (suc (suc zero))) lt = refl
+zero_in (suc (suc (suc (suc zero)))) lt = refl
+zero_in (suc (suc (suc (suc (suc zero))))) lt = refl
+zero_in (suc (suc (suc (suc (suc (suc zero)))))) lt = refl
+zero_in (suc (suc (suc (suc (suc (suc (suc zero))))))) lt = refl
+zero_in (suc (suc (suc (suc (suc (suc (suc (suc k)))))))) lt = absurd (omega arith)
+
+octant_of_clear : (k : ℕ) → bits_of (octant_shape Clear k) ≡ 0
+octant_of_clear k = refl
+
+pub bits_clear : (held : List Tree) (block : Option Name) → block ≡ None → (t : Tree)
+    → IsBlockOf held 1 block t → (k : ℕ) → k < 8
+    → bits_of_leaf (0 ∷ 0 ∷ 0 ∷ 0 ∷ 0 ∷ 0 ∷ 0 ∷ 0 ∷ []) k ≡ bits_of (octant_shape (shape_of t) k)
+bits_clear held block e t b k lt =
+    zero_in k lt ∙ sym (octant_of_clear k) ∙ ap (λ s. bits_of (octant_shape s k))
+    (sym (clear_block held 1 t (subst (λ (o : Option Name). IsBlockOf held 1 o t) e b)))
 
 -- where nothing stands
 pub nothing_block : (held : List Tree) (level : ℕ) → IsBlockOf held level None Gone

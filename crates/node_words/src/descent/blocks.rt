@@ -1,7 +1,8 @@
-ghost use Rattle.std.specs.Prelude.{◌≡◌, ℕ, ◌-◌, ◌*◌, ◌<◌, ◌≤◌, option_copied};
+ghost use Rattle.std.specs.Prelude.{◌≡◌, ℕ, ◌-◌, ◌*◌, ◌<◌, ◌≤◌, List, option_copied};
 ghost use Rattle.vw_cell.specs.Places.{block_side};
-ghost use Rattle.node_words.specs.shapes.Shape.{bits_of};
+ghost use Rattle.node_words.specs.shapes.Shape.{bits_of, octant_shape};
 ghost use Rattle.node_words.specs.shapes.Tree.{Tree, child_of};
+ghost use Rattle.node_words.specs.Held.{name_in, bits_of_leaf};
 ghost use Rattle.node_words.specs.descent.Roots.{IsBlockOf, IsOctantOf, HasBlock, ForBlock};
 
 use crate::shapes::Name;
@@ -34,6 +35,35 @@ pub fn octant_name<B: Blocks>(
     match block {
         Some(name) => store.child_at(name, octant),
         None => None,
+    }
+}
+
+/// The names of what stands in the octants of a block, none where nothing does.
+pub fn octant_names<B: Blocks>(store: &mut B, level: u8, block: Option<Name>) -> [Option<Name>; 8]
+    requires level { 1 ≤ level }
+    requires block { HasBlock (B.seen store.old).held level block }
+    ensures octants { (k : ℕ) → k < 8
+        → IsOctantOf (B.seen store.old).held level block k (name_in result k) }
+    ensures seen { B.seen store.new ≡ B.seen store.old }
+    ensures rests { B.rests store.old store.new }
+{
+    match block {
+        Some(name) => store.children_at(name),
+        None => [None; 8],
+    }
+}
+
+/// The bits of the leaves in the octants of a block of level 1, 0 where nothing stands.
+pub fn octant_bits<B: Blocks>(store: &mut B, block: Option<Name>) -> [u64; 8]
+    requires block { HasBlock (B.seen store.old).held 1 block }
+    ensures leaves { ForBlock (B.seen store.old).held 1 block
+        (λ s. (k : ℕ) → k < 8 → bits_of_leaf result k ≡ bits_of (octant_shape s k)) }
+    ensures seen { B.seen store.new ≡ B.seen store.old }
+    ensures rests { B.rests store.old store.new }
+{
+    match block {
+        Some(name) => store.leaves_at(name),
+        None => [0; 8],
     }
 }
 

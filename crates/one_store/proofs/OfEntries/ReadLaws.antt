@@ -1,5 +1,5 @@
 -- What is read from words, as the look-ups see it.
-use Rattle.std.proofs.Common.{◌≡◌, ℕ, zero, suc, ◌-◌, ◌/◌, ◌%◌, ◌^◌, ◌<◌, ◌≤◌, Some, List, [], ◌∷◌, length, refl, ap, sym, ◌∙◌, arith, true, false, Bool}
+use Rattle.std.proofs.Common.{◌≡◌, ℕ, zero, suc, ◌-◌, ◌/◌, ◌%◌, ◌^◌, ◌<◌, ◌≤◌, Option, Some, None, List, [], ◌∷◌, length, refl, ap, sym, ◌∙◌, arith, true, false, Bool}
 use Rattle.std.specs.Prelude.{slice_index_or}
 use Rattle.node_words.specs.declared.shapes.names.Name.{Name}
 use Rattle.node_words.specs.declared.keys.Key.TheVariants.{Node}
@@ -33,6 +33,22 @@ child_read_at (suc level) bits pairs k found h lt e =
     let z : suc level - 1 ≡ level = omega arith in
     ap (λ (l : ℕ). child_of_word l found) z ∙ ap (λ (w : ℕ). child_of_word level w) e
     ∙ child_read level bits pairs k lt
+
+-- the level of a child
+abbrev level_in : ℕ → Option Name → ℕ
+level_in level None = level
+level_in level (Some n) = n.level
+
+read_level : (level found : ℕ) → level_in level (child_of_word level found) ≡ level
+read_level level zero = refl
+read_level level (suc at) = refl
+
+pub child_below : (level bits : ℕ) (pairs : Pairs) (k : ℕ) (m : Name) → 1 ≤ level → k < 8
+    → key_child (key_from level bits pairs) k ≡ Some m → m.level ≡ level - 1
+child_below level bits pairs k m above lt e =
+    let found : ℕ = half (k % 2) (pair_number pairs (k / 2)) in
+    sym (ap (level_in (level - 1)) (child_read_at level bits pairs k found above lt refl ∙ e))
+    ∙ read_level (level - 1) found
 
 -- a test is true or isn't
 number : Bool → ℕ

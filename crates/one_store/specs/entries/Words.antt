@@ -1,9 +1,9 @@
 -- The words of all slots of a plan, and how they are read as books and keys.
-use Rattle.std.specs.Prelude.{◌≡◌, ◌≢◌, ℕ, ◌-◌, ◌<◌, ◌≤◌, List, slice_index}
+use Rattle.std.specs.Prelude.{◌≡◌, ◌≢◌, ℕ, ◌-◌, ◌<◌, ◌≤◌, Option, Some, None, List, slice_index}
 use Rattle.node_words.specs.declared.shapes.names.Name.{Name}
 use Rattle.node_words.specs.declared.keys.Key.{Key}
 use Rattle.node_words.specs.Plans.{Layout}
-use Rattle.core_laws.specs.places.Names.{IsName, named}
+use Rattle.core_laws.specs.places.Names.{IsName, named, key_bits}
 use Rattle.one_store.specs.declared.entries.key_words.Pairs.{Pairs}
 use Rattle.one_store.specs.entries.Slots.{slot_place}
 use Rattle.one_store.specs.entries.Rows.{item_in}
@@ -34,6 +34,11 @@ pairs_in w n = item_in no_pairs w.pairs (n.level - 1) (slot_place w.plan n)
 -- the key of a name. A slot that was freed keeps its key
 abbrev pub key_in : Written → Name → Key
 key_in w n = key_from n.level (leaf_bits_in w n) (pairs_in w n)
+
+-- the bits of a child that is a leaf, 0 where there is none
+abbrev pub child_bits : Written → Option Name → ℕ
+child_bits w None = 0
+child_bits w (Some n) = key_bits (key_in w n)
 
 -- a live name has the key
 pub record HasEntry (w : Written) (n : Name) (key : Key) : Type 0 where

@@ -2,12 +2,13 @@ ghost use Rattle.std.specs.Prelude.{◌≡◌, ◌≢◌, ◌↔◌, ℕ, ◌+�
 ghost use Rattle.node_words.specs.declared.shapes.names.Name.{Name};
 ghost use Rattle.node_words.specs.declared.keys.Key.TheVariants.{Node};
 ghost use Rattle.node_words.specs.Plans.{IsPlan};
+ghost use Rattle.node_words.specs.Held.{bits_of_leaf};
 ghost use Rattle.node_words.specs.Keys.{bucket_of_key};
 ghost use Rattle.core_laws.specs.places.WordIds.{levels, buckets_at};
 ghost use Rattle.core_laws.specs.places.Names.{IsName, HasNames, named, key_bits, key_child};
 ghost use Rattle.one_store.specs.entries.Slots.{bucket_place, slot_place, block_place, number_of_buckets, number_of_blocks, slots_at, IsBucket};
 ghost use Rattle.one_store.specs.entries.Coding.{key_of, pair_number};
-ghost use Rattle.one_store.specs.entries.Words.{book_in, key_in, pairs_in, HasEntry, LacksKey, LacksKeyIn, IsLowestFree, AreLiveBelow};
+ghost use Rattle.one_store.specs.entries.Words.{book_in, key_in, pairs_in, child_bits, HasEntry, LacksKey, LacksKeyIn, IsLowestFree, AreLiveBelow};
 ghost use Rattle.one_store.specs.entries.Tags.{tag_of};
 ghost use Rattle.one_store.specs.entries.Used.{IsUnusedFrom};
 ghost use Rattle.one_store.specs.entries.Changes.{SetsBook, PutsKey, PutsEntry};
@@ -207,7 +208,7 @@ impl EntryWords {
         child_in(half_of(word, octant % 2), n.level - 1)
     }
 
-    /// The children of a node.
+    /// The children of a node, by one look at its words.
     #[tactic(auto, using(crate::proofs::OfEntries::ReadLaws::eight_children))]
     pub fn children(&self, n: Name) -> [Option<Name>; 8]
         requires name { IsName self.now.plan n }
@@ -215,15 +216,37 @@ impl EntryWords {
         requires names { HasNames self.now.plan (key_in self.now n) }
         ensures { Node result ≡ key_in self.now n }
     {
+        let pairs = self.pairs(n);
         [
-            self.child(n, 0),
-            self.child(n, 1),
-            self.child(n, 2),
-            self.child(n, 3),
-            self.child(n, 4),
-            self.child(n, 5),
-            self.child(n, 6),
-            self.child(n, 7),
+            self.child_of(n, &pairs, 0),
+            self.child_of(n, &pairs, 1),
+            self.child_of(n, &pairs, 2),
+            self.child_of(n, &pairs, 3),
+            self.child_of(n, &pairs, 4),
+            self.child_of(n, &pairs, 5),
+            self.child_of(n, &pairs, 6),
+            self.child_of(n, &pairs, 7),
+        ]
+    }
+
+    /// The bits of the leaves below a node, 0 where an octant is clear, by one look at its words.
+    pub fn leaves(&self, n: Name) -> [u64; 8]
+        requires name { IsName self.now.plan n }
+        requires level { n.level ≡ 1 }
+        requires names { HasNames self.now.plan (key_in self.now n) }
+        ensures { (k : ℕ) → k < 8
+            → bits_of_leaf result k ≡ child_bits self.now (key_child (key_in self.now n) k) }
+    {
+        let pairs = self.pairs(n);
+        [
+            self.leaf_of(n, &pairs, 0),
+            self.leaf_of(n, &pairs, 1),
+            self.leaf_of(n, &pairs, 2),
+            self.leaf_of(n, &pairs, 3),
+            self.leaf_of(n, &pairs, 4),
+            self.leaf_of(n, &pairs, 5),
+            self.leaf_of(n, &pairs, 6),
+            self.leaf_of(n, &pairs, 7),
         ]
     }
 
@@ -380,6 +403,49 @@ impl EntryWords {
     {
         match row(&self.pairs, usize::from(n.level) - 1).get(self.place(n)) {
             Some(pairs) => pairs.word(number),
+            None => 0,
+        }
+    }
+
+    // The words of the key of a node.
+    #[inline(always)]
+    fn pairs(&self, n: Name) -> Pairs
+        requires name { IsName self.now.plan n }
+        requires level { 1 ≤ n.level }
+        ensures { result ≡ pairs_in self.now n }
+    {
+        item(
+            row(&self.pairs, usize::from(n.level) - 1),
+            self.place(n),
+            NO_PAIRS,
+        )
+    }
+
+    // The child in an octant of a node that has these words.
+    #[inline(always)]
+    fn child_of(&self, n: Name, pairs: &Pairs, octant: u8) -> Option<Name>
+        requires level { 1 ≤ n.level }
+        requires octant { octant < 8 }
+        requires pairs { pairs.now ≡ pairs_in self.now n }
+        requires names { HasNames self.now.plan (key_in self.now n) }
+        ensures { result ≡ key_child (key_in self.now n) octant }
+    {
+        let _plan = self.plan;
+        let word = pairs.word(octant / 2);
+        child_in(half_of(word, octant % 2), n.level - 1)
+    }
+
+    // The bits of the leaf in an octant of a node that has these words.
+    #[inline(always)]
+    fn leaf_of(&self, n: Name, pairs: &Pairs, octant: u8) -> u64
+        requires level { n.level ≡ 1 }
+        requires octant { octant < 8 }
+        requires pairs { pairs.now ≡ pairs_in self.now n }
+        requires names { HasNames self.now.plan (key_in self.now n) }
+        ensures { result ≡ child_bits self.now (key_child (key_in self.now n) octant) }
+    {
+        match self.child_of(n, pairs, octant) {
+            Some(leaf) => self.bits(leaf),
             None => 0,
         }
     }

@@ -1,4 +1,6 @@
+use crate::stores::octants::{Octants, octants_of};
 use crate::stores::{Counted, fault_in, full_world_file, look_at, versions_of};
+use node_words::Name;
 use std::test::Fail;
 
 /// A file of a world of 8 cells: version 0 is empty, and all cells of version 1 are set.
@@ -32,6 +34,63 @@ fn what_a_file_says_of_its_versions(rt: HostRuntime) {
     assert_eq!(rt; look_at(rt.alloc(), SIXTEEN, 5), Counted::Cells(9));
     assert_eq!(rt; look_at(rt.alloc(), SIXTEEN, 1), Counted::NoVersion);
     assert_eq!(rt; look_at(rt.alloc(), b"VDAG", 0), Counted::NoFile);
+}
+
+const FIRST: Name = Name {
+    level: 1,
+    bucket: 0,
+    slot: 0,
+};
+
+const SECOND: Name = Name {
+    level: 1,
+    bucket: 0,
+    slot: 1,
+};
+
+const THIRD: Name = Name {
+    level: 1,
+    bucket: 0,
+    slot: 2,
+};
+
+/// Versions of `SIXTEEN`, and what their roots have in octants: version 0 the first node in octant
+/// 0 and in octant 2 the second one, which has both leaves; version 2 the third node in octant 0.
+const OCTANTS: &[(u32, Octants)] = &[
+    (
+        0,
+        Octants {
+            names: [
+                Some(FIRST),
+                None,
+                Some(SECOND),
+                None,
+                None,
+                None,
+                None,
+                None,
+            ],
+            bits: [1, 0, 0, 0, 0, 0, 0, 2],
+        },
+    ),
+    (
+        2,
+        Octants {
+            names: [Some(THIRD), None, None, None, None, None, None, None],
+            bits: [0; 8],
+        },
+    ),
+];
+
+#[test]
+fn octants_are_told_by_one_look(rt: HostRuntime) {
+    for &(version, octants) in OCTANTS {
+        assert_eq!(rt;
+            octants_of(rt.alloc(), SIXTEEN, version),
+            Some(octants),
+            "of {version}"
+        );
+    }
 }
 
 /// A file of a world of 4 cells without a version, so that it has no leaf.

@@ -1,5 +1,5 @@
 -- What a change and a question come to, case by case.
-use Rattle.std.proofs.Common.{◌≡◌, ◌≢◌, ℕ, ◌⊎◌, Bool, Some, None, length, refl, sym, subst, inl, inr}
+use Rattle.std.proofs.Common.{◌≡◌, ◌≢◌, ℕ, ◌⊎◌, Bool, length, refl, ap, sym, ◌∙◌, subst, inl, inr}
 use Rattle.history_model.specs.declared.acts.Act.{Act}
 use Rattle.history_model.specs.declared.acts.Act.TheVariants.{Fill, Erase, Ball, Carve, Copy, Stamp, Tint, Undo, Redo}
 use Rattle.history_model.specs.declared.histories.Record.{Record}
@@ -15,11 +15,10 @@ use Rattle.conformance.specs.Kinds.{answer_at}
 use Rattle.conformance.specs.QuestionAnswers.{AnswersTo, is, colour, count, faces, extent, hit}
 use Rattle.history_model.specs.Worlds as worlds
 use Rattle.conformance.specs.scripts.Sessions.{ExtendsWith}
-use Rattle.retain.specs.Retained.{falls_out}
 use Rattle.store_run.specs.Answering.{nothing_to_go_to}
-use Rattle.store_run.specs.Changing.{Changes, AnswersForget, MakesVersion}
+use Rattle.store_run.specs.Changing.{Changes, ChangesKeeping, AnswersForget, MakesVersion}
 use Rattle.voxdag_c.specs.declared.held.worlds.CWorld.{CWorld}
-use Rattle.voxdag_c.specs.held.Calls.{WorldChanges, WorldForgets, KeepsLast, WorldAsks, Answered, CantBeAsked, IsActAnswered, CountsLine, record_of, store_side, call_status, is_in, cells_in, faces_answered, extent_in, tint_in_answer, hit_in}
+use Rattle.voxdag_c.specs.held.Calls.{WorldChanges, WorldForgets, WorldAsks, Answered, CantBeAsked, IsActAnswered, CountsLine, record_of, store_side, call_status, is_in, cells_in, faces_answered, extent_in, tint_in_answer, hit_in}
 
 nothing_not_done : (act : Act) → nothing_to_go_to act ≡ answers.Done → ⊥
 nothing_not_done Undo e = cc
@@ -41,15 +40,25 @@ done_or_not old new r _ (Changes.log_full _ all way eq) = inr ((λ e. cc), eq)
 done_or_not old new r _ (Changes.forgotten _ to goes gone eq) = inr ((λ e. cc), eq)
 done_or_not old new r _ (Changes.nothing _ other none eq) = inr (nothing_not_done r.act, eq)
 
+kept_or_not : (keep : ℕ) (w : CWorld) (new : Log) (r : Record) (answer : Answer)
+    → ChangesKeeping keep w.open.plan w.open.models w.open.log r answer new
+    → (answer ≡ answers.Done) ⊎ ((answer ≢ answers.Done) × (new ≡ w.open.log))
+kept_or_not keep w new r answer logs =
+    elim (done_or_not w.open.log logs.before r answer logs.changes) [
+      | inl done ↦ inl done
+      | inr other ↦ inr (other.0, logs.stays other.0 ∙ other.1)
+    ]
+
 module _ (w v : CWorld) (act : Act) (answer : Answer)
     (fits : FitsWorld (store_side w) w.open.models act)
     (plan : v.open.plan ≡ w.open.plan)
     (models : v.open.models ≡ w.open.models) (keep : v.keep ≡ w.keep)
     (line : CountsLine answer w.line v.line)
-    (logs : Changes w.open.log (record_of w act) answer v.open.log)
+    (logs : ChangesKeeping w.keep w.open.plan w.open.models w.open.log (record_of w act) answer
+    v.open.log)
     (makes : answer ≡ answers.Done → MakesVersion w.open.models w.open.log act v.open.log)
     (goes_on : (once : Bool)
-    → ExtendsWith w.open.plan w.open.models 0
+    → ExtendsWith w.keep w.open.plan w.open.models 0
     (record { line = w.line; command = Edit act once }) w.open.log v.open.log w.open.noted v.open.noted
     (answer_at (record { line = w.line; command = Edit act once })
     (length v.open.log.records) answer)) where
@@ -60,22 +69,19 @@ module _ (w v : CWorld) (act : Act) (answer : Answer)
         record { plan = plan; models = models; keep = keep; line = line; goes_on = goes_on once };
   }
 
-  pub refuses : (status : ℕ) → status ≡ call_status answer → answer ≢ answers.Done
-      → WorldChanges w act status v
-  refuses status eq other = go (done_or_not w.open.log v.open.log (record_of w act) answer logs)
+  pub changed : (status : ℕ) → status ≡ call_status answer → WorldChanges w act status v
+  changed status eq = go (kept_or_not w.keep w v.open.log (record_of w act) answer logs)
     where
       go : (answer ≡ answers.Done) ⊎ ((answer ≢ answers.Done) × (v.open.log ≡ w.open.log))
           → WorldChanges w act status v
-      go (inl done) = absurd (other done)
+      go (inl done) =
+          subst (λ (n : ℕ). WorldChanges w act n v)
+          (ap (λ (a : Answer). call_status a) (sym done) ∙ sym eq)
+          (WorldChanges.made v fits (subst (λ (a : Answer). IsActAnswered w act a v) done answered)
+          (makes done))
       go (inr (isnt, stays)) =
           subst (λ (n : ℕ). WorldChanges w act n v) (sym eq)
           (WorldChanges.refused v answer fits isnt answered stays)
-
-  pub makes_and_keeps : (u : CWorld) → answer ≡ answers.Done → KeepsLast v u
-      → WorldChanges w act 0 u
-  makes_and_keeps u done keeps =
-      WorldChanges.made v u fits (subst (λ (a : Answer). IsActAnswered w act a v) done answered)
-      (makes done) keeps
 
 pub lacks_memory : (w v : CWorld) (act : Act) → FitsWorld (store_side w) w.open.models act → v ≡ w
     → WorldChanges w act 2 v
@@ -87,7 +93,7 @@ pub forgets : (w v : CWorld) (version : ℕ) (answer : Answer) (status : ℕ)
     → v.keep ≡ w.keep → CountsLine answer w.line v.line
     → AnswersForget w.open.log (mark_of version (length w.open.log.records) 0 w.line) answer
     v.open.log
-    → ExtendsWith w.open.plan w.open.models 0
+    → ExtendsWith w.keep w.open.plan w.open.models 0
     (record { line = w.line; command = Forget version }) w.open.log v.open.log w.open.noted v.open.noted
     (answer_at (record { line = w.line; command = Forget version })
     (length v.open.log.records) answer)
@@ -96,16 +102,6 @@ forgets w v version answer status eq plan models keep line logs goes_on =
     subst (λ (n : ℕ). WorldForgets w version n v) (sym eq)
     (WorldForgets.answered v answer logs
     (record { plan = plan; models = models; keep = keep; line = line; goes_on = goes_on }))
-
--- ---- what falls out is forgotten
-
-pub keeps_all : (w : CWorld) → falls_out (length w.open.log.records) w.keep ≡ None → KeepsLast w w
-keeps_all w none = KeepsLast.all none
-
-pub keeps_last : (w v : CWorld) (version status : ℕ)
-    → falls_out (length w.open.log.records) w.keep ≡ Some version
-    → WorldForgets w version status v → KeepsLast w v
-keeps_last w v version status falls forgets = KeepsLast.last v version status falls forgets
 
 -- ---- the answers to questions have the form that these ask for
 

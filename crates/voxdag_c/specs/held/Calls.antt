@@ -29,7 +29,6 @@ use Rattle.extract.specs.Saved.{file_of_box}
 use Rattle.extract.specs.Surface.{surface_of_box}
 use Rattle.flood.specs.Regions.{FilesRegion}
 use Rattle.node_words.specs.Plans.{usual_buckets, is_cap}
-use Rattle.retain.specs.Retained.{falls_out}
 use Rattle.script.specs.Fitting.{QuestionFits}
 use Rattle.script.specs.declared.commands.Command.{Command}
 use Rattle.script.specs.declared.commands.Command.TheVariants.{Edit, Forget}
@@ -39,7 +38,7 @@ use Rattle.conformance.specs.Answers.{mark_of}
 use Rattle.conformance.specs.Kinds.{answer_at}
 use Rattle.conformance.specs.QuestionAnswers.{AnswersTo}
 use Rattle.conformance.specs.scripts.Sessions.{ExtendsWith}
-use Rattle.store_run.specs.Changing.{Changes, AnswersForget, MakesVersion}
+use Rattle.store_run.specs.Changing.{ChangesKeeping, AnswersForget, MakesVersion}
 use Rattle.store_run.specs.TintChanges.{tints_differ}
 use Rattle.store_run.specs.TintFiles.{file_of_tints}
 use Rattle.store_run.specs.Worlds.{size_of}
@@ -119,13 +118,15 @@ pub record WorldExtends (w : CWorld) (command : Command) (answer : Answer)
   pub models : v.open.models ≡ w.open.models
   pub keep : v.keep ≡ w.keep
   pub line : CountsLine answer w.line v.line
-  pub goes_on : ExtendsWith w.open.plan w.open.models 0
+  pub goes_on : ExtendsWith w.keep w.open.plan w.open.models 0
       (record { line = w.line; command = command }) w.open.log v.open.log w.open.noted v.open.noted
       (answer_at (record { line = w.line; command = command }) (length v.open.log.records) answer)
 
--- the act is answered
+-- the act is answered, and where its record pushes a version out of the last ones that are kept,
+-- that is forgotten by the record's line
 pub record IsActAnswered (w : CWorld) (act : Act) (answer : Answer) (v : CWorld) : Type 0 where
-  pub logs : Changes w.open.log (record_of w act) answer v.open.log
+  pub logs : ChangesKeeping w.keep w.open.plan w.open.models w.open.log (record_of w act) answer
+      v.open.log
   pub goes_on : (once : Bool) → WorldExtends w (Edit act once) answer v
 
 -- the model that is stamped is there
@@ -141,26 +142,17 @@ pub data WorldForgets (w : CWorld) (version : ℕ) : ℕ → CWorld → Type 0 w
       v.open.log
       → WorldExtends w (Forget version) answer v → WorldForgets w version (call_status answer) v
 
--- the version that fell out of the last ones that are kept, as the newest one came, is forgotten;
--- where all are kept, none fell out
-pub data KeepsLast (w : CWorld) : CWorld → Type 0 where
-  all : falls_out (length w.open.log.records) w.keep ≡ None → KeepsLast w w
-  last : (v : CWorld) (version status : ℕ)
-      → falls_out (length w.open.log.records) w.keep ≡ Some version
-      → WorldForgets w version status v → KeepsLast w v
-
 -- a change of the world: its model isn't there, it leaves the world, or memory lacks, and nothing
--- changed; or it was made, and what fell out then was forgotten; or the answer says why not, and
+-- changed; or it was made, and what it pushed out was forgotten; or the answer says why not, and
 -- the history is what it was. Memory may lack at any change: nothing here says that it doesn't
 pub data WorldChanges (w : CWorld) (act : Act) : ℕ → CWorld → Type 0 where
   no_model : ¬ HasItsModel w.open.models act → WorldChanges w act 14 w
   outside : HasItsModel w.open.models act → ¬ FitsWorld (store_side w) w.open.models act
       → WorldChanges w act 3 w
   memory : FitsWorld (store_side w) w.open.models act → WorldChanges w act 2 w
-  made : (v u : CWorld) → FitsWorld (store_side w) w.open.models act
+  made : (v : CWorld) → FitsWorld (store_side w) w.open.models act
       → IsActAnswered w act answers.Done v
-      → MakesVersion w.open.models w.open.log act v.open.log → KeepsLast v u
-      → WorldChanges w act 0 u
+      → MakesVersion w.open.models w.open.log act v.open.log → WorldChanges w act 0 v
   refused : (v : CWorld) (answer : Answer) → FitsWorld (store_side w) w.open.models act
       → answer ≢ answers.Done → IsActAnswered w act answer v → v.open.log ≡ w.open.log
       → WorldChanges w act (call_status answer) v

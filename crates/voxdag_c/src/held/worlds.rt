@@ -10,14 +10,13 @@ ghost use Rattle.core_laws.specs.contents.Versions.{HoldsVersion};
 ghost use Rattle.store_run.specs.Kept.{IsLargeStore};
 ghost use Rattle.voxdag_c.specs.held.Places.{cell_of_c_place, box_of, ball_of};
 ghost use Rattle.voxdag_c.specs.held.Calls.{act_here, act_of_kind, held_side, store_side};
-ghost use Rattle.voxdag_c.specs.held.Calls.{WorldChanges, WorldForgets, KeepsLast, IsGone, PutsNewest, PutsSize, IsBegun, Refuses, RefusesModels, AreSideAndCap, AreSlots, AsksForModels, CountsLine, call_status, status_of_file};
+ghost use Rattle.voxdag_c.specs.held.Calls.{WorldChanges, WorldForgets, IsGone, PutsNewest, PutsSize, IsBegun, Refuses, RefusesModels, AreSideAndCap, AreSlots, AsksForModels, CountsLine, call_status, status_of_file};
 ghost use Rattle.voxdag_c.specs.held.GoingOn.{IsCapAsked, IsPlanAsked};
 
 use crate::held::places::{CBox, CPlace};
 use crate::held::statuses as status;
 use history_model::{Act, TintAct};
 use node_words::Plan;
-use retain::falls_out;
 use std::alloc::Global;
 use store_run::OpenWorld;
 use transcript::Answer;
@@ -28,8 +27,8 @@ use vw_cell::{Memory, Side};
 pub(crate) const MOST_BYTES: usize = 1 << 28;
 
 /// A world that C holds, how many of its last versions are kept, 0 for all, and the number of the
-/// change that comes next. All that C does counts as done by session 0, each accepted change and
-/// each version that is forgotten as its next line.
+/// change that comes next. All that C does counts as done by session 0, each accepted change, and
+/// each version forgotten by hand, as its next line.
 #[derive(Drop)]
 pub struct CWorld {
     pub open: OpenWorld,
@@ -217,18 +216,6 @@ impl CWorld {
         }
     }
 
-    // Forgets the version that falls out of the last ones that are kept, where one does.
-    fn keep_last(&mut self)
-        ensures { KeepsLast self.old self.new }
-    {
-        match falls_out(self.open.moment(), self.keep) {
-            Some(version) => {
-                let _status = self.forget(version);
-            }
-            None => {}
-        }
-    }
-
     // Makes a plain act that lies in the world, with tint 1 where cells have tints.
     fn change_here(&mut self, act: Act) -> u32
         requires fits { FitsWorld (held_side self.old) self.old.open.models act }
@@ -239,20 +226,16 @@ impl CWorld {
         self.change(act)
     }
 
-    // Makes the change where it lies in the world.
+    // Makes the change where it lies in the world, and keeps the last versions that it is to keep.
     pub(crate) fn change(&mut self, act: Act) -> u32
         requires fits { FitsWorld (store_side self.old) self.old.open.models act }
         requires suits { suits_tints self.old.open.log.coloured act ≡ true }
         ensures { WorldChanges self.old act result self.new }
     {
-        match self.open.change(0, self.line, act) {
+        match self.open.change_keeping(0, self.line, act, self.keep) {
             Ok(answer) => {
                 self.line = next_line(self.line, answer);
-                if !is_done(answer) {
-                    return status_of(answer);
-                }
-                self.keep_last();
-                status::DONE
+                status_of(answer)
             }
             Err(_) => status::NO_MEMORY,
         }
@@ -386,15 +369,6 @@ pub(crate) fn boxed(alloc: Global, world: CWorld) -> Result<Box<CWorld, Global>,
     match Box::new(alloc, world) {
         Ok(world) => Ok(world),
         Err(_) => Err(status::NO_MEMORY),
-    }
-}
-
-fn is_done(answer: Answer) -> bool
-    ensures { IsTrue result ↔ (answer ≡ answers.Done) }
-{
-    match answer {
-        Answer::Done => true,
-        _ => false,
     }
 }
 

@@ -51,7 +51,7 @@ fresh-returns-in-Ok-clause-walked g t c base rest cells b =
 pub made-leaf_or_old-requires-clause-old : goal.made-leaf_or_old-requires-clause-old
 made-leaf_or_old-requires-clause-old g t c =
     let (base, rest, cells, b) = c.requires.task in
-    let (u, o) = c.old-old.ensures base c.args.level cells b.made in
+    let (u, o) = c.old-old.ensures.block base c.args.level cells b.made in
     let e = c.if-level-eq0.true in
     let z = subst (λ (l : ℕ). IsOld base l u c.old-old.result) e o in
     subst (λ (v : StoreState). HasBlock v.held 0 c.old-old.result) (sym c.bits-bits.ensures.seen)
@@ -64,7 +64,7 @@ made-returns-then-level-eq0-clause-walked g t c base rest cells b =
     let small : c.bits-bits.result < 2 ^ 64 = omega arith in
     let same = c.bits-bits.ensures.bits base cells (starts_held base rest _ _ b.starts) z in
     let target = leaf_target c.args.level c.bits-bits.result cells e small same in
-    let (u, o) = c.old-old.ensures base c.args.level cells b.made in
+    let (u, o) = c.old-old.ensures.block base c.args.level cells b.made in
     leaf_walked _ base rest c.args.level c.bits-bits.result c.old-old.result u cells c.leaf_or_old.result
     _ _ _ c.args.full.now _ e target c.bits-bits.ensures.seen b.starts b.recalls o
     c.leaf_or_old.ensures.found
@@ -78,7 +78,7 @@ made-node_or_old-requires-clause-level g t c =
 pub made-node_or_old-requires-clause-old : goal.made-node_or_old-requires-clause-old
 made-node_or_old-requires-clause-old g t c =
     let (base, rest, cells, b) = c.requires.task in
-    let (u, o) = c.old-old.ensures base c.args.level cells b.made in
+    let (u, o) = c.old-old.ensures.block base c.args.level cells b.made in
     let all = c.in-Ok.ensures.walked base rest cells b in
     old_has base _ c.args.level u _ (part_keeps _ base rest _ _ _ _ _ _ _ all.partway) o
 
@@ -101,7 +101,7 @@ made-node_or_old-requires-clause-room g t c =
 
 pub made-returns-in-Ok-clause-walked : goal.made-returns-in-Ok-clause-walked
 made-returns-in-Ok-clause-walked g t c base rest cells b =
-    let (u, o) = c.old-old.ensures base c.args.level cells b.made in
+    let (u, o) = c.old-old.ensures.block base c.args.level cells b.made in
     let all = c.in-Ok.ensures.walked base rest cells b in
     node_walked _ base rest all.partway.finds.now c.args.level c.old-old.result u
     (shape_with c.args.level cells) c.node_or_old.result _ _ _ _ _ _ _ b.starts.keeps

@@ -1,12 +1,4 @@
-use Rattle.std.proofs.Common.{◌≡◌, ◌+◌, ◌*◌}
-use Rattle.vw_cell.specs.declared.directions.Direction.{Direction}
-use Rattle.node_words.specs.descent.Answers.{AreRight}
-use Rattle.measure.specs.Faces.{passes_exposed}
-use Rattle.measure.specs.Tallies.{IsWholeTally}
-use Rattle.measure.specs.Widening.{ForCounted}
-use Rattle.extract.specs.Layers.{leaf_corner}
-use Rattle.extract.specs.Filling.{Fills, IsInFirst}
-use Rattle.extract.specs.Sides.{HasSides, sided, words_towards}
+use Rattle.std.proofs.Common.{◌+◌, ◌*◌}
 use Rattle.extract.proofs.side_walks.+fill_sides.Given as goal
 
 abbrev pub decreases-fill_sides : goal.decreases-fill_sides
@@ -17,19 +9,3 @@ decreases-fill_side_octants g l = 3 * l.place.level + 1
 
 abbrev pub decreases-fill_side_octant : goal.decreases-fill_side_octant
 decreases-fill_side_octant g l = 3 * l.place.level
-
-abbrev pub invariant-fill_side_octants-loop-octant : goal.invariant-fill_side_octants-loop-octant
-invariant-fill_side_octants-loop-octant g l =
-    let seen = g.B.Blocks.seen in
-    record {
-      fills : (d : Direction) → ForCounted passes_exposed (seen l.fn.store).held
-          (sided l.fn.subject d) l.fn.place
-          (λ cells. Fills
-          (λ m. IsInFirst l.fn.place l.octant
-          (leaf_corner l.fn.b l.fn.layer m)) l.fn.b l.fn.layer cells
-          (words_towards l.fn.words d) (words_towards l.words d));
-      block : HasSides (seen l.store).held l.fn.place.level l.fn.subject;
-      wholes : AreRight (IsWholeTally passes_exposed) (seen l.fn.store).held l.wholes.places;
-      same : seen l.store ≡ seen l.fn.store;
-      rests : g.B.Blocks.rests l.fn.store l.store;
-    }

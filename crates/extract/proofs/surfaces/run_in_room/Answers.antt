@@ -1,7 +1,6 @@
 use Rattle.std.proofs.Common.{length, sym, subst}
-use Rattle.std.specs.Prelude.{slice_index}
 use Rattle.extract.specs.Layers.{HasRoom, AppendsVoxels}
-use Rattle.extract.specs.BareLayers.{IsAny, run_of_sides}
+use Rattle.extract.specs.BareLayers.{run_of_sides}
 use Rattle.extract.specs.declared.bare_layers.BareLeaf.{BareLeaf}
 use Rattle.extract.proofs.SurfaceLaws.{blank_appends, no_row}
 use Rattle.extract.proofs.surfaces.run_in_room.Goals as goal
@@ -11,11 +10,6 @@ returns-then-is_row_blank c =
     blank_appends c.args.into.now _
     (no_row _ _ c.args.n c.args.at c.args.to c.requires.any c.requires.row.x
     (c.is_row_blank.ensures c.if-is_row_blank.true))
-
-pub cells_in_room-requires-clause-any : goal.cells_in_room-requires-clause-any
-cells_in_room-requires-clause-any c =
-    subst (λ (leaf : BareLeaf). IsAny leaf (slice_index c.args.slab.now.anys c.args.m))
-    (sym c.leaf_of.ensures) c.requires.any
 
 pub cells_in_room-requires-clause-room : goal.cells_in_room-requires-clause-room
 cells_in_room-requires-clause-room c =

@@ -3,9 +3,8 @@ use Rattle.vw_cell.specs.Places.{block_side}
 use Rattle.node_words.specs.shapes.Tree.{shape_of}
 use Rattle.node_words.specs.descent.Roots.{cells_of}
 use Rattle.node_words.proofs.OfDescent.LookLaws.{block_still}
-use Rattle.measure.specs.Faces.{passes_exposed}
-use Rattle.measure.proofs.WholeLaws.{whole_right_before}
 use Rattle.extract.specs.Surface.{bare_sides_of, layer_of_sides}
+use Rattle.extract.proofs.NearLaws.{found_before}
 use Rattle.extract.proofs.SurfaceLaws.{slab_more, slab_none}
 use Rattle.extract.proofs.surfaces.slabs_in.Goals as goal
 
@@ -14,7 +13,7 @@ loop-z-init g c =
     record {
       within = omega arith;
       appended = λ t o. slab_none _ _;
-      right = c.new-wholes.ensures _;
+      right = c.new-found.ensures _;
       block = c.requires.block;
       same = refl;
       rests = g.met.B.Blocks.rests_itself _;
@@ -32,8 +31,8 @@ loop-z-preserved g c =
           (c.slab_in.ensures.voxels c.if-not-slab_in.false t
           (block_still (seen c.args.store.now)
           (seen c.loop-z.store) c.args.level c.args.block t was.same o));
-      right = whole_right_before passes_exposed (seen c.slab_in.new.store) (seen c.loop-z.store) _
-          (sym c.slab_in.ensures.seen) c.slab_in.ensures.wholes;
+      right = found_before (seen c.slab_in.new.store) (seen c.loop-z.store) _
+          (sym c.slab_in.ensures.seen) c.slab_in.ensures.found;
       block = c.slab_in.ensures.block;
       same = c.slab_in.ensures.seen ∙ was.same;
       rests = g.met.B.Blocks.rests_on _ _ _ was.rests c.slab_in.ensures.rests;

@@ -6,11 +6,6 @@ use Rattle.measure.proofs.wholes.tally_leaves.Given as goal
 
 abbrev pub invariant-loop-octant : goal.invariant-loop-octant
 invariant-loop-octant g l =
-    let seen = g.B.Blocks.seen in
-    record {
-      number : (test : Cell → Bool)
-          → g.S.Subject.counts (seen l.fn.store).held l.fn.of.level l.fn.of.subject test
-          → l.number ≡ tallied l.fn.of.level (whole_of l.fn.of.level) test l.octant;
-      same : seen l.store ≡ seen l.fn.store;
-      rests : g.B.Blocks.rests l.fn.store l.store;
-    }
+    (test : Cell → Bool)
+    → g.S.Subject.counts (g.B.Blocks.seen l.fn.store).held l.fn.of.level l.fn.of.subject test
+    → l.number ≡ tallied l.fn.of.level (whole_of l.fn.of.level) test l.octant

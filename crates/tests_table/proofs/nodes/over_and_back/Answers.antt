@@ -16,20 +16,26 @@ node-requires-clause-held g c =
       are_held = first_held c.args.pass.now.view.held h.tree c.args.leaf h.is_held h.root;
     }
 
-pub back-requires-clause-idle : goal.back-requires-clause-idle
-back-requires-clause-idle g c =
+pub told_and_back-told-requires-clause-idle : goal.told_and_back-told-requires-clause-idle
+told_and_back-told-requires-clause-idle g c =
     let h = c.requires.held in
     (c.in-Ok.ensures.taken (first_row h.tree)
     (first_held c.args.pass.now.view.held h.tree c.args.leaf h.is_held h.root)).turn
 
-pub back-requires-clause-held : goal.back-requires-clause-held
-back-requires-clause-held g c =
+pub told_and_back-told-requires-clause-held : goal.told_and_back-told-requires-clause-held
+told_and_back-told-requires-clause-held g c =
     let v = c.args.pass.now.view.held in let h = c.requires.held in let n = c.args.leaf in
     over_name v c.node.new.pass.view.held h.tree n c.in-Ok.node h.is_held h.root
     (c.in-Ok.ensures.taken (first_row h.tree) (first_held v h.tree n h.is_held h.root)).joins
 
-pub back-requires-clause-room : goal.back-requires-clause-room
-back-requires-clause-room g c =
+pub told_and_back-told-requires-clause-level : goal.told_and_back-told-requires-clause-level
+told_and_back-told-requires-clause-level g c =
+    let h = c.requires.held in
+    (c.in-Ok.ensures.taken (first_row h.tree)
+    (first_held c.args.pass.now.view.held h.tree c.args.leaf h.is_held h.root)).level_is
+
+pub told_and_back-told-requires-clause-room : goal.told_and_back-told-requires-clause-room
+told_and_back-told-requires-clause-room g c =
     let v = c.args.pass.now.view.held in let h = c.requires.held in let n = c.args.leaf in
     let le = over_number v c.node.new.pass.view.held h.tree n c.in-Ok.node 3500 h.root
     (c.in-Ok.ensures.taken (first_row h.tree) (first_held v h.tree n h.is_held h.root)).joins
@@ -41,8 +47,8 @@ returns-in-Ok-clause-given g c = λ t held root.
     (let v = c.args.pass.now.view.held in let w = c.node.new.pass.view.held in
     let n = c.args.leaf in let m = c.in-Ok.node in
     let joins = (c.in-Ok.ensures.taken (first_row t) (first_held v t n held root)).joins in
-    over_went v w c.back.new.pass.view.held t n m root joins
-    (c.back.ensures.held (node_at m (first_row t)) (over_held v w t n m held root joins) refl))
+    over_went v w c.told_and_back-told.new.pass.view.held t n m root joins
+    (c.told_and_back-told.ensures.held (node_at m (first_row t)) (over_held v w t n m held root joins) refl))
 
 pub back_first-requires-clause-idle : goal.back_first-requires-clause-idle
 back_first-requires-clause-idle g c =
@@ -80,7 +86,7 @@ returns-in-Err-clause-given g c = λ t held root.
 pub returns-in-Ok-clause-log : goal.returns-in-Ok-clause-log
 returns-in-Ok-clause-log g c =
     let h = c.requires.held in
-    c.back.ensures.only.log
+    c.told_and_back-told.ensures.log
     ∙ (c.in-Ok.ensures.taken (first_row h.tree)
     (first_held c.args.pass.now.view.held h.tree c.args.leaf h.is_held h.root)).log
 

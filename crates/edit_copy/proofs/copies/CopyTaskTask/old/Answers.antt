@@ -1,4 +1,4 @@
 use Rattle.edit_copy.proofs.copies.CopyTaskTask.old.Goals as goal
 
-pub returns : goal.returns
-returns c base level cells m = (m.tree, m.is_old)
+pub returns-clause-block : goal.returns-clause-block
+returns-clause-block c base level cells m = (m.tree, m.is_old)

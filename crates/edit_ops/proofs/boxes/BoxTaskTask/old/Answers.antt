@@ -1,4 +1,4 @@
 use Rattle.edit_ops.proofs.boxes.BoxTaskTask.old.Goals as goal
 
-pub returns : goal.returns
-returns c base level cells m = (m.paints.tree, m.paints.is_old)
+pub returns-clause-block : goal.returns-clause-block
+returns-clause-block c base level cells m = (m.paints.tree, m.paints.is_old)
