@@ -26,6 +26,9 @@
  * promise. Closing, forgetting and questions never do. No call ends the program, waits or prints.
  * malloc, realloc and free are those of the program: of one allocator, and aligned as C asks.
  *
+ * VERSIONS. A voxdag_versions holds a file of versions (docs/DAG_FILES.md) that is only asked. What is
+ * said here of a voxdag_world holds of it too; its calls are the last ones of this header.
+ *
  * THREADS. One call at a time on each world: keep it on one thread, or put a lock of your own round
  * each call; then a world may go from thread to thread. Different worlds have nothing in common.
  * Not from a signal handler, nor in the forked child of a process with threads.
@@ -66,7 +69,8 @@ enum {
     VOXDAG_NOT_LEGAL = 19,      /* a record of the journal breaks a rule: its line is told */
     VOXDAG_OTHER_KIND = 20,     /* a call for worlds with tints where cells have none, or the reverse */
     VOXDAG_BAD_TINT = 21,       /* a tint isn't from 1 to 255 */
-    VOXDAG_BAD_SCENE = 22       /* the file's scene breaks a rule: which, and where, is told */
+    VOXDAG_BAD_SCENE = 22,      /* the file's scene breaks a rule: which, and where, is told */
+    VOXDAG_BAD_DAG = 23         /* no file of versions: the place of its first fault is told */
 };
 
 /* All bytes 0: no world is open. */
@@ -75,10 +79,18 @@ typedef struct voxdag_world {
     void *at;
 } voxdag_world;
 
+/* The same of a file of versions. */
+typedef struct voxdag_versions {
+    bool is_open;
+    void *at;
+} voxdag_versions;
+
 #ifdef __cplusplus
 #define VOXDAG_CLOSED voxdag_world{}
+#define VOXDAG_NO_VERSIONS voxdag_versions{}
 #else
 #define VOXDAG_CLOSED ((voxdag_world){0})
+#define VOXDAG_NO_VERSIONS ((voxdag_versions){0})
 #endif
 
 /* A place, or a size, in cells. A negative number is a very large one here, and so is refused. */
@@ -143,6 +155,24 @@ voxdag_status voxdag_c_surface(voxdag_world *w, uint32_t version, const voxdag_b
                                size_t *needed);
 voxdag_status voxdag_c_flood(voxdag_world *w, uint32_t version, const voxdag_box *part, const voxdag_place *from,
                              uint64_t *cells, uint8_t *out, size_t size, size_t *needed);
+voxdag_status voxdag_c_versions_open(voxdag_versions *v, const uint8_t *file, size_t size, uint64_t *at);
+voxdag_status voxdag_c_versions_close(voxdag_versions *v);
+voxdag_status voxdag_c_versions_side(voxdag_versions *v, uint32_t *side);
+voxdag_status voxdag_c_versions_newest(voxdag_versions *v, uint32_t *version);
+voxdag_status voxdag_c_versions_get(voxdag_versions *v, uint32_t version, const voxdag_place *at, bool *set);
+voxdag_status voxdag_c_versions_count(voxdag_versions *v, uint32_t version, const voxdag_box *part, uint64_t *cells);
+voxdag_status voxdag_c_versions_faces(voxdag_versions *v, uint32_t version, const voxdag_box *part, uint64_t *faces);
+voxdag_status voxdag_c_versions_bounds(voxdag_versions *v, uint32_t version, bool *some, voxdag_box *least);
+voxdag_status voxdag_c_versions_ray(voxdag_versions *v, uint32_t version, const voxdag_place *from, int16_t dx, int16_t dy,
+                                    int16_t dz, bool *some, voxdag_place *hit);
+voxdag_status voxdag_c_versions_same(voxdag_versions *v, uint32_t a, uint32_t b, bool *same);
+voxdag_status voxdag_c_versions_changes(voxdag_versions *v, uint32_t a, uint32_t b, bool *some, voxdag_box *least);
+voxdag_status voxdag_c_versions_save(voxdag_versions *v, uint32_t version, const voxdag_box *part, uint8_t *out, size_t size,
+                                     size_t *needed);
+voxdag_status voxdag_c_versions_surface(voxdag_versions *v, uint32_t version, const voxdag_box *part, voxdag_shown *out,
+                                        size_t room, size_t *needed);
+voxdag_status voxdag_c_versions_flood(voxdag_versions *v, uint32_t version, const voxdag_box *part, const voxdag_place *from,
+                                      uint64_t *cells, uint8_t *out, size_t size, size_t *needed);
 
 /* ---- Opening and closing */
 
@@ -510,6 +540,137 @@ static inline voxdag_status voxdag_dag(voxdag_world *w, uint8_t *out, size_t siz
     uint8_t none = 0;
     if (!w || !needed || (!out && size)) return VOXDAG_NULL;
     return voxdag_c_dag(w, out ? out : &none, size, needed);
+}
+
+/* ---- A file of versions
+ *
+ * What voxdag_dag or `voxdag dag` wrote, which is only asked: begin with VOXDAG_NO_VERSIONS. Its versions
+ * have the numbers that they had, and a version that was forgotten isn't there. */
+
+/* Opens the file of versions that these bytes are, and keeps a copy of them: besides, opening takes a
+ * bit for each entry of a level, 2 MiB at most.
+ *   IS_OPEN     exactly where v has a file already
+ *   BAD_DAG     *at: the place of the first fault, which docs/DAG_FILES.md orders; exactly where a rule is
+ *               broken and there was memory
+ *   NO_MEMORY   at any other time. *at is written with BAD_DAG alone */
+static inline voxdag_status voxdag_versions_open(voxdag_versions *v, const uint8_t *file, size_t size, uint64_t *at)
+{
+    static const uint8_t none = 0;
+    if (!v || !at || (!file && size)) return VOXDAG_NULL;
+    if (v->is_open) return VOXDAG_IS_OPEN;
+    return voxdag_c_versions_open(v, file ? file : &none, size, at);
+}
+
+/* Closes the file and gives its memory back. IS_CLOSED where there was none. */
+static inline voxdag_status voxdag_versions_close(voxdag_versions *v)
+{
+    if (!v) return VOXDAG_NULL;
+    return voxdag_c_versions_close(v);
+}
+
+/* The side of its worlds in cells: of a world with tints that of its store, which is four times as long. */
+static inline voxdag_status voxdag_versions_side(voxdag_versions *v, uint32_t *side)
+{
+    if (!v || !side) return VOXDAG_NULL;
+    return voxdag_c_versions_side(v, side);
+}
+
+/* The greatest number of a version. NO_VERSION exactly where the file has none. */
+static inline voxdag_status voxdag_versions_newest(voxdag_versions *v, uint32_t *version)
+{
+    if (!v || !version) return VOXDAG_NULL;
+    return voxdag_c_versions_newest(v, version);
+}
+
+/* These answer as the questions of a world do: IS_CLOSED, OUTSIDE, BAD_WAY, and NO_VERSION exactly where
+ * all else is right and the file hasn't the version. They take no memory. */
+static inline voxdag_status voxdag_versions_get(voxdag_versions *v, uint32_t version, const voxdag_place *at, bool *set)
+{
+    bool is = false;
+    voxdag_status status;
+    if (!v || !at || !set) return VOXDAG_NULL;
+    status = voxdag_c_versions_get(v, version, at, &is);
+    if (!status) *set = is;
+    return status;
+}
+
+static inline voxdag_status voxdag_versions_count(voxdag_versions *v, uint32_t version, const voxdag_box *part, uint64_t *cells)
+{
+    if (!v || !part || !cells) return VOXDAG_NULL;
+    return voxdag_c_versions_count(v, version, part, cells);
+}
+
+static inline voxdag_status voxdag_versions_faces(voxdag_versions *v, uint32_t version, const voxdag_box *part, uint64_t *faces)
+{
+    if (!v || !part || !faces) return VOXDAG_NULL;
+    return voxdag_c_versions_faces(v, version, part, faces);
+}
+
+static inline voxdag_status voxdag_versions_bounds(voxdag_versions *v, uint32_t version, bool *some, voxdag_box *least)
+{
+    bool are = false;
+    voxdag_status status;
+    if (!v || !some || !least) return VOXDAG_NULL;
+    status = voxdag_c_versions_bounds(v, version, &are, least);
+    if (!status) *some = are;
+    return status;
+}
+
+static inline voxdag_status voxdag_versions_ray(voxdag_versions *v, uint32_t version, const voxdag_place *from, int32_t dx, int32_t dy,
+                                                int32_t dz, bool *some, voxdag_place *hit)
+{
+    bool is = false;
+    voxdag_status status;
+    if (!v || !from || !some || !hit) return VOXDAG_NULL;
+    status = voxdag_c_versions_ray(v, version, from, voxdag_step(dx), voxdag_step(dy), voxdag_step(dz), &is, hit);
+    if (!status) *some = is;
+    return status;
+}
+
+/* Of two versions NO_VERSION comes where the file lacks one of them. */
+static inline voxdag_status voxdag_versions_same(voxdag_versions *v, uint32_t a, uint32_t b, bool *same)
+{
+    bool is = false;
+    voxdag_status status;
+    if (!v || !same) return VOXDAG_NULL;
+    status = voxdag_c_versions_same(v, a, b, &is);
+    if (!status) *same = is;
+    return status;
+}
+
+static inline voxdag_status voxdag_versions_changes(voxdag_versions *v, uint32_t a, uint32_t b, bool *some, voxdag_box *least)
+{
+    bool are = false;
+    voxdag_status status;
+    if (!v || !some || !least) return VOXDAG_NULL;
+    status = voxdag_c_versions_changes(v, a, b, &are, least);
+    if (!status) *some = are;
+    return status;
+}
+
+/* These write bytes and cells as the calls of a world without tints do, and may answer NO_MEMORY. */
+static inline voxdag_status voxdag_versions_save(voxdag_versions *v, uint32_t version, const voxdag_box *part, uint8_t *out, size_t size,
+                                                 size_t *needed)
+{
+    uint8_t none = 0;
+    if (!v || !part || !needed || (!out && size)) return VOXDAG_NULL;
+    return voxdag_c_versions_save(v, version, part, out ? out : &none, size, needed);
+}
+
+static inline voxdag_status voxdag_versions_surface(voxdag_versions *v, uint32_t version, const voxdag_box *part, voxdag_shown *out,
+                                                    size_t room, size_t *needed)
+{
+    voxdag_shown none = {0, 0, 0, 0, 0};
+    if (!v || !part || !needed || (!out && room)) return VOXDAG_NULL;
+    return voxdag_c_versions_surface(v, version, part, out ? out : &none, room, needed);
+}
+
+static inline voxdag_status voxdag_versions_flood(voxdag_versions *v, uint32_t version, const voxdag_box *part, const voxdag_place *from,
+                                                  uint64_t *cells, uint8_t *out, size_t size, size_t *needed)
+{
+    uint8_t none = 0;
+    if (!v || !part || !from || !cells || !needed || (!out && size)) return VOXDAG_NULL;
+    return voxdag_c_versions_flood(v, version, part, from, cells, out ? out : &none, size, needed);
 }
 
 #ifdef __cplusplus

@@ -4,8 +4,8 @@
     oracle/library.py [SEED] [CALLS] [--library PATH]
 
 So many calls by chance (100,000) are made of worlds of sides 4 to 32, each lives for some hundreds of calls: changes,
-undos, versions that are forgotten, every question, saves, journals, files of versions; journals are gone on with, some
-with one byte changed; scenes by chance are opened, as oracle/scenes.py reads them; and in one call of eight a number is
+undos, versions that are forgotten, every question, saves, journals, files of versions, which are asked by themselves
+too; journals are gone on with, some with one byte changed; scenes by chance are opened, as oracle/scenes.py reads them; and in one call of eight a number is
 wrong. What the library answers, or its refusal with the line
 that it tells, has to be what the slow world answers. SEED is by default the day's date as a number. Calls that the
 library doesn't export are named and passed over. The last line is 'N passed, M failed'.
@@ -32,9 +32,9 @@ FILES = [(b"", 0), *(((ROOT / f"models/{name}.vox").read_bytes(), count) for nam
 CHANGES = {"fill": 10, "erase": 6, "ball": 6, "carve": 4, "copy": 6, "stamp": 5, "undo": 7, "redo": 5, "forget": 4}
 QUESTIONS = {
     "get": 8, "colour": 4, "count": 6, "faces": 4, "bounds": 4, "ray": 5, "same": 4, "changes": 8, "surface_bytes": 8, "save": 3, "tints": 2,
-    "flood": 3, "journal": 2, "dag": 1, "newest": 2, "model_size": 2, "about": 1, "go_on": 2, "open_scene": 1,
+    "flood": 3, "journal": 2, "dag": 1, "newest": 2, "model_size": 2, "about": 1, "go_on": 2, "open_scene": 1, "of_file": 1,
 }
-NEEDS = {"surface_bytes": "surface", "tints": "save", "go_on": "open_journal"}
+NEEDS = {"of_file": "versions_open", "surface_bytes": "surface", "tints": "save", "go_on": "open_journal"}
 
 
 class Differs(Exception):
@@ -155,6 +155,19 @@ class Pair:
             raise Differs("a world that is gone on with has another journal")
         return "go_on"
 
+    def of_file(self) -> str:
+        """Asks the file of versions beside the slow world; a version that was forgotten isn't there. With tints the file has
+        other cells, those of the store."""
+        with voxdag.Versions(self.slow.dag(), library=self._library) as file:
+            if (file.side, file.newest) != (4 * self.side if self.tints else self.side, self.slow.newest):
+                raise Differs(f"the file of versions has side {file.side} and version {file.newest}")
+            for name in () if self.tints else ("get", "count", "faces", "bounds", "ray", "same", "changes", "surface_bytes", "save", "flood"):
+                arguments = self.arguments(name)
+                given, wanted = (outcome(getattr(of, name), *arguments) for of in (file, self.slow))
+                if given != tuple("NoVersion" if word == "Forgotten" else word for word in wanted):
+                    raise Differs(f"{name}{arguments} of a file: wanted {str(wanted)[:300]}, given {str(given)[:300]}")
+        return "of_file"
+
     def spoil(self, journal: bytearray) -> None:
         """Changes a byte, or an act, or takes a line out, or cuts the end off."""
         at = self._rng.randrange(len(journal))
@@ -236,7 +249,8 @@ def compare(library: voxdag.Library, seed: int, calls: int) -> tuple[int, Counte
             try:
                 arguments = pair.arguments(name)
                 asked.append((name, arguments))
-                kinds[pair.go_on() if name == "go_on" else open_scene(library, rng) if name == "open_scene" else pair.both(name, arguments)] += 1
+                other = {"go_on": pair.go_on, "of_file": pair.of_file, "open_scene": lambda: open_scene(library, rng)}.get(name)
+                kinds[other() if other else pair.both(name, arguments)] += 1
             except Differs as differs:
                 differ += 1
                 print(f"seed {seed}, world {number}, side {pair.side}, tints {pair.tints}, keep {pair.keep}, call {len(asked)}\n  {differs}", flush=True)

@@ -118,6 +118,35 @@ static int scene(long n)
     return told.placements != 1 || voxdag_count(&w, 1, &all, &cells) || cells != 1 || voxdag_close(&w) ? 2 : 0;
 }
 
+/* The same of a file of versions, whose questions want no memory. */
+static int held(long n)
+{
+    /* Side 4, two versions, one leaf: version 0 has nothing, and version 2 the leaf with all cells. */
+    static const uint8_t file[] = {
+        'V', 'D', 'A', 'G', 1, 0, 0, 0, 4, 0, 0, 0, 2, 0, 0, 0, 1, 0, 0, 0, 255, 255, 255, 255, 255, 255, 255, 255,
+        0, 0, 0, 0, 0, 0, 0, 0, 2, 0, 0, 0, 1, 0, 0, 0,
+    };
+    const voxdag_box all = {{0, 0, 0}, {4, 4, 4}};
+    voxdag_versions v = VOXDAG_NO_VERSIONS;
+    static uint8_t out[512];
+    size_t needed = 7;
+    uint64_t cells = 0, at = 7;
+    left = n;
+    voxdag_status s = voxdag_versions_open(&v, file, sizeof file, &at);
+    if (at != 7) return 2;
+    if (s != VOXDAG_OK) return s == VOXDAG_NO_MEMORY && left == -1 && voxdag_versions_close(&v) == VOXDAG_IS_CLOSED ? 1 : 2;
+    int failed = 0;
+    s = voxdag_versions_save(&v, 2, &all, out, sizeof out, &needed);
+    if (s == VOXDAG_NO_MEMORY) {
+        failed = 1;
+        if (needed != 7 || voxdag_versions_save(&v, 2, &all, out, sizeof out, &needed)) return 2;
+    } else if (s != VOXDAG_OK) return 2;
+    left = 0;
+    s = voxdag_versions_count(&v, 2, &all, &cells);
+    left = -1;
+    return s || cells != 64 || needed != 60 + 4 * 64 || voxdag_versions_close(&v) ? 2 : failed;
+}
+
 /* The same of a world with tints, up to the file of a box and what can be seen of it. */
 static int tinted(long n)
 {
@@ -164,9 +193,13 @@ int main(void)
     while ((told = scene(l)) == 1) l++;
     if (told) printf("memory: allocation %ld of a scene is wrongly told\n", l);
     if (told || l < 5) return 1;
+    long h = 0;
+    while ((told = held(h)) == 1) h++;
+    if (told) printf("memory: allocation %ld of a file of versions is wrongly told\n", h);
+    if (told || h < 2) return 1;
     long k = 0;
     while ((told = tinted(k)) == 1) k++;
     if (told) printf("memory: allocation %ld of a world with tints is wrongly told\n", k);
-    else printf("memory: %ld allocations failed in turn\n", n + m + l + k);
+    else printf("memory: %ld allocations failed in turn\n", n + m + l + h + k);
     return told != 0 || k < 5;
 }

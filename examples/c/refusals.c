@@ -235,6 +235,125 @@ static int bytes(voxdag_world *w, uint32_t version)
     return 0;
 }
 
+/* Nothing of a file of versions may be null, and without one nothing is answered. */
+static int no_file(voxdag_versions *v, const uint8_t *file, size_t size)
+{
+    bool is = true;
+    uint32_t n = 7;
+    uint64_t at = 7;
+    size_t needed = 7;
+    uint8_t out[8] = {0};
+    voxdag_shown seen[2] = {{7, 7, 7, 7, 7}, {7, 7, 7, 7, 7}};
+    voxdag_place p = in, hit = in;
+    voxdag_box b = good;
+    SAYS(VOXDAG_NULL, voxdag_versions_open(NULL, file, size, &at)); SAYS(VOXDAG_NULL, voxdag_versions_open(v, NULL, 1, &at)); SAYS(VOXDAG_NULL, voxdag_versions_open(v, file, size, NULL));
+    SAYS(VOXDAG_NULL, voxdag_versions_close(NULL)); SAYS(VOXDAG_NULL, voxdag_versions_side(NULL, &n)); SAYS(VOXDAG_NULL, voxdag_versions_side(v, NULL));
+    SAYS(VOXDAG_NULL, voxdag_versions_newest(NULL, &n)); SAYS(VOXDAG_NULL, voxdag_versions_newest(v, NULL));
+    SAYS(VOXDAG_NULL, voxdag_versions_get(NULL, 0, &p, &is)); SAYS(VOXDAG_NULL, voxdag_versions_get(v, 0, NULL, &is)); SAYS(VOXDAG_NULL, voxdag_versions_get(v, 0, &p, NULL));
+    SAYS(VOXDAG_NULL, voxdag_versions_count(NULL, 0, &b, &at)); SAYS(VOXDAG_NULL, voxdag_versions_count(v, 0, NULL, &at)); SAYS(VOXDAG_NULL, voxdag_versions_count(v, 0, &b, NULL));
+    SAYS(VOXDAG_NULL, voxdag_versions_faces(NULL, 0, &b, &at)); SAYS(VOXDAG_NULL, voxdag_versions_faces(v, 0, NULL, &at)); SAYS(VOXDAG_NULL, voxdag_versions_faces(v, 0, &b, NULL));
+    SAYS(VOXDAG_NULL, voxdag_versions_bounds(NULL, 0, &is, &b)); SAYS(VOXDAG_NULL, voxdag_versions_bounds(v, 0, NULL, &b)); SAYS(VOXDAG_NULL, voxdag_versions_bounds(v, 0, &is, NULL));
+    SAYS(VOXDAG_NULL, voxdag_versions_ray(NULL, 0, &p, 1, 0, 0, &is, &hit)); SAYS(VOXDAG_NULL, voxdag_versions_ray(v, 0, NULL, 1, 0, 0, &is, &hit));
+    SAYS(VOXDAG_NULL, voxdag_versions_ray(v, 0, &p, 1, 0, 0, NULL, &hit)); SAYS(VOXDAG_NULL, voxdag_versions_ray(v, 0, &p, 1, 0, 0, &is, NULL));
+    SAYS(VOXDAG_NULL, voxdag_versions_same(NULL, 0, 0, &is)); SAYS(VOXDAG_NULL, voxdag_versions_same(v, 0, 0, NULL));
+    SAYS(VOXDAG_NULL, voxdag_versions_changes(NULL, 0, 0, &is, &b)); SAYS(VOXDAG_NULL, voxdag_versions_changes(v, 0, 0, NULL, &b)); SAYS(VOXDAG_NULL, voxdag_versions_changes(v, 0, 0, &is, NULL));
+    SAYS(VOXDAG_NULL, voxdag_versions_save(NULL, 0, &b, out, 8, &needed)); SAYS(VOXDAG_NULL, voxdag_versions_save(v, 0, NULL, out, 8, &needed));
+    SAYS(VOXDAG_NULL, voxdag_versions_save(v, 0, &b, NULL, 8, &needed)); SAYS(VOXDAG_NULL, voxdag_versions_save(v, 0, &b, out, 8, NULL));
+    SAYS(VOXDAG_NULL, voxdag_versions_surface(NULL, 0, &b, seen, 2, &needed)); SAYS(VOXDAG_NULL, voxdag_versions_surface(v, 0, NULL, seen, 2, &needed));
+    SAYS(VOXDAG_NULL, voxdag_versions_surface(v, 0, &b, NULL, 2, &needed)); SAYS(VOXDAG_NULL, voxdag_versions_surface(v, 0, &b, seen, 2, NULL));
+    SAYS(VOXDAG_NULL, voxdag_versions_flood(NULL, 0, &b, &p, &at, out, 8, &needed)); SAYS(VOXDAG_NULL, voxdag_versions_flood(v, 0, NULL, &p, &at, out, 8, &needed));
+    SAYS(VOXDAG_NULL, voxdag_versions_flood(v, 0, &b, NULL, &at, out, 8, &needed)); SAYS(VOXDAG_NULL, voxdag_versions_flood(v, 0, &b, &p, NULL, out, 8, &needed));
+    SAYS(VOXDAG_NULL, voxdag_versions_flood(v, 0, &b, &p, &at, NULL, 8, &needed)); SAYS(VOXDAG_NULL, voxdag_versions_flood(v, 0, &b, &p, &at, out, 8, NULL));
+    SAYS(VOXDAG_IS_CLOSED, voxdag_versions_same(v, 0, 0, &is)); SAYS(VOXDAG_IS_CLOSED, voxdag_versions_changes(v, 0, 0, &is, &b)); SAYS(VOXDAG_IS_CLOSED, voxdag_versions_save(v, 0, &b, out, 8, &needed));
+    SAYS(VOXDAG_IS_CLOSED, voxdag_versions_surface(v, 0, &b, seen, 2, &needed)); SAYS(VOXDAG_IS_CLOSED, voxdag_versions_flood(v, 0, &b, &p, &at, out, 8, &needed));
+    SAYS(VOXDAG_IS_CLOSED, voxdag_versions_close(v)); SAYS(VOXDAG_IS_CLOSED, voxdag_versions_side(v, &n)); SAYS(VOXDAG_IS_CLOSED, voxdag_versions_newest(v, &n));
+    SAYS(VOXDAG_IS_CLOSED, voxdag_versions_get(v, 0, &p, &is)); SAYS(VOXDAG_IS_CLOSED, voxdag_versions_count(v, 0, &b, &at)); SAYS(VOXDAG_IS_CLOSED, voxdag_versions_faces(v, 0, &b, &at));
+    SAYS(VOXDAG_IS_CLOSED, voxdag_versions_bounds(v, 0, &is, &b)); SAYS(VOXDAG_IS_CLOSED, voxdag_versions_ray(v, 0, &p, 1, 0, 0, &is, &hit));
+    IS(is && n == 7 && at == 7 && needed == 7 && hit.x == 1 && b.size.x == 8 && !out[0] && seen[1].sides == 7);
+    return 0;
+}
+
+/* A file of versions 0 and 2 of side 8, which has the cells 0 and 1 of a row in version 2: what is asked and refused, and
+ * the place of each first fault. */
+static int held(const uint8_t *file, size_t size)
+{
+    static const struct { size_t at; uint8_t byte; uint64_t fault; } rows[] = {
+        {0, 'W', 0}, {4, 2, 4}, {8, 5, 8}, {14, 2, 12}, {19, 2, 16}, {24, 0, 24}, {32, 2, 32}, {36, 2, 32}, {66, 1, 64}, {72, 0, 72}, {76, 2, 76}, {76, 0, 32},
+    };
+    voxdag_versions v = VOXDAG_NO_VERSIONS;
+    const voxdag_box all = {{0, 0, 0}, {8, 8, 8}}, wide = {{7, 0, 0}, {2, 1, 1}}, four = {{0, 0, 0}, {4, 1, 1}};
+    const voxdag_place out_of = {8, 0, 0}, end = {7, 0, 0};
+    voxdag_box least = good;
+    voxdag_place hit = in;
+    uint8_t other[81], out[80];
+    voxdag_shown seen[3];
+    size_t needed = 7;
+    uint32_t n = 7;
+    uint64_t cells = 7, at = 7;
+    bool is;
+    memset(&is, 0xa5, sizeof is);
+    if (no_file(&v, file, size)) return 1;
+    memcpy(other, file, size);
+    SAYS(VOXDAG_OK, voxdag_versions_open(&v, other, size, &at)); SAYS(VOXDAG_IS_OPEN, voxdag_versions_open(&v, other, size, &at)); IS(at == 7);
+    memset(other, 9, sizeof other); /* a copy is kept */
+    SAYS(VOXDAG_OK, voxdag_versions_side(&v, &n)); IS(n == 8);
+    SAYS(VOXDAG_OK, voxdag_versions_newest(&v, &n)); IS(n == 2);
+    SAYS(VOXDAG_OK, voxdag_versions_get(&v, 0, &good.at, &is)); IS(!is);
+    SAYS(VOXDAG_OK, voxdag_versions_get(&v, 2, &good.at, &is)); IS(is);
+    SAYS(VOXDAG_OK, voxdag_versions_count(&v, 2, &all, &cells)); IS(cells == 2);
+    SAYS(VOXDAG_OK, voxdag_versions_faces(&v, 2, &all, &cells)); IS(cells == 10);
+    SAYS(VOXDAG_OK, voxdag_versions_bounds(&v, 0, &is, &least)); IS(!is && least.size.x == 8);
+    SAYS(VOXDAG_OK, voxdag_versions_bounds(&v, 2, &is, &least)); IS(is && !least.at.x && least.size.x == 2 && least.size.y == 1 && least.size.z == 1);
+    SAYS(VOXDAG_OK, voxdag_versions_ray(&v, 0, &end, -1, 0, 0, &is, &hit)); IS(!is && hit.x == 1);
+    SAYS(VOXDAG_OK, voxdag_versions_ray(&v, 2, &end, -1, 0, 0, &is, &hit)); IS(is && hit.x == 1 && !hit.y && !hit.z);
+    SAYS(VOXDAG_OK, voxdag_versions_same(&v, 0, 2, &is)); IS(!is); SAYS(VOXDAG_OK, voxdag_versions_same(&v, 2, 2, &is)); IS(is);
+    SAYS(VOXDAG_OK, voxdag_versions_changes(&v, 2, 2, &is, &least)); IS(!is && least.size.x == 2); least = good;
+    SAYS(VOXDAG_OK, voxdag_versions_changes(&v, 2, 0, &is, &least)); IS(is && !least.at.x && least.size.x == 2 && least.size.y == 1 && least.size.z == 1);
+    memset(seen, 7, sizeof seen);
+    SAYS(VOXDAG_TOO_SMALL, voxdag_versions_surface(&v, 2, &all, seen, 1, &needed)); IS(needed == 2 && seen[0].x == 7);
+    SAYS(VOXDAG_OK, voxdag_versions_surface(&v, 2, &all, seen, 3, &needed)); IS(needed == 2 && seen[2].x == 7);
+    IS(!seen[0].x && seen[0].tint == 1 && seen[0].sides == 61 && seen[1].x == 1 && !seen[1].z && seen[1].tint == 1 && seen[1].sides == 62);
+    SAYS(VOXDAG_TOO_SMALL, voxdag_versions_save(&v, 2, &four, NULL, 0, &needed)); IS(needed == 68);
+    SAYS(VOXDAG_OK, voxdag_versions_save(&v, 2, &four, out, sizeof out, &needed)); IS(needed == 68 && !memcmp(out, "VOX ", 4) && out[64] == 1 && out[67] == 1);
+    SAYS(VOXDAG_OK, voxdag_versions_flood(&v, 2, &four, &four.at, &cells, out, sizeof out, &needed)); IS(cells == 0 && needed == 60);
+    SAYS(VOXDAG_OK, voxdag_versions_flood(&v, 0, &four, &four.at, &cells, out, sizeof out, &needed)); IS(cells == 4 && needed == 76 && out[72] == 3);
+    cells = 10; needed = 7;
+    SAYS(VOXDAG_OUTSIDE, voxdag_versions_save(&v, 1, &wide, out, sizeof out, &needed)); SAYS(VOXDAG_OUTSIDE, voxdag_versions_surface(&v, 1, &wide, seen, 3, &needed));
+    SAYS(VOXDAG_OUTSIDE, voxdag_versions_flood(&v, 1, &wide, &end, &cells, out, sizeof out, &needed)); SAYS(VOXDAG_OUTSIDE, voxdag_versions_flood(&v, 1, &four, &end, &cells, out, sizeof out, &needed));
+    SAYS(VOXDAG_OUTSIDE, voxdag_versions_get(&v, 1, &out_of, &is)); SAYS(VOXDAG_OUTSIDE, voxdag_versions_count(&v, 1, &wide, &cells));
+    SAYS(VOXDAG_OUTSIDE, voxdag_versions_faces(&v, 1, &wide, &cells)); SAYS(VOXDAG_OUTSIDE, voxdag_versions_ray(&v, 1, &out_of, 0, 0, 0, &is, &hit));
+    SAYS(VOXDAG_BAD_WAY, voxdag_versions_ray(&v, 1, &end, 1025, 0, 0, &is, &hit)); SAYS(VOXDAG_BAD_WAY, voxdag_versions_ray(&v, 2, &end, 0, 0, INT32_MIN, &is, &hit));
+    const uint32_t none[] = {1, 3, 65536, 65538, UINT32_MAX};
+    for (size_t k = 0; k < NUMBER(none); k++) {
+        SAYS(VOXDAG_NO_VERSION, voxdag_versions_get(&v, none[k], &end, &is)); SAYS(VOXDAG_NO_VERSION, voxdag_versions_count(&v, none[k], &all, &cells));
+        SAYS(VOXDAG_NO_VERSION, voxdag_versions_faces(&v, none[k], &all, &cells)); SAYS(VOXDAG_NO_VERSION, voxdag_versions_bounds(&v, none[k], &is, &least));
+        SAYS(VOXDAG_NO_VERSION, voxdag_versions_ray(&v, none[k], &end, 1, 0, 0, &is, &hit));
+        SAYS(VOXDAG_NO_VERSION, voxdag_versions_same(&v, none[k], 2, &is)); SAYS(VOXDAG_NO_VERSION, voxdag_versions_same(&v, 2, none[k], &is));
+        SAYS(VOXDAG_NO_VERSION, voxdag_versions_changes(&v, none[k], 0, &is, &least)); SAYS(VOXDAG_NO_VERSION, voxdag_versions_changes(&v, 0, none[k], &is, &least));
+        SAYS(VOXDAG_NO_VERSION, voxdag_versions_save(&v, none[k], &all, out, sizeof out, &needed)); SAYS(VOXDAG_NO_VERSION, voxdag_versions_surface(&v, none[k], &all, seen, 3, &needed));
+        SAYS(VOXDAG_NO_VERSION, voxdag_versions_flood(&v, none[k], &all, &end, &cells, out, sizeof out, &needed));
+    }
+    IS(is && cells == 10 && needed == 7 && least.size.x == 2 && hit.x == 1);
+    SAYS(VOXDAG_OK, voxdag_versions_close(&v)); SAYS(VOXDAG_IS_CLOSED, voxdag_versions_newest(&v, &n)); IS(n == 2);
+    for (size_t k = 0; k < NUMBER(rows); k++) {
+        memcpy(other, file, size);
+        other[rows[k].at] = rows[k].byte;
+        SAYS(VOXDAG_BAD_DAG, voxdag_versions_open(&v, other, size, &at)); IS(at == rows[k].fault && !v.is_open);
+    }
+    memcpy(other, file, size);
+    other[size] = 0;
+    SAYS(VOXDAG_BAD_DAG, voxdag_versions_open(&v, other, size + 1, &at)); IS(at == size);
+    SAYS(VOXDAG_BAD_DAG, voxdag_versions_open(&v, other, 75, &at)); IS(at == 72);
+    SAYS(VOXDAG_BAD_DAG, voxdag_versions_open(&v, NULL, 0, &at)); IS(at == 0);
+    /* A file without versions, levels and entries of none. */
+    memset(other, 0, sizeof other);
+    memcpy(other, file, 12);
+    SAYS(VOXDAG_OK, voxdag_versions_open(&v, other, 24, &at)); IS(at == 0);
+    SAYS(VOXDAG_NO_VERSION, voxdag_versions_newest(&v, &n)); IS(n == 2); SAYS(VOXDAG_OK, voxdag_versions_side(&v, &n)); IS(n == 8);
+    SAYS(VOXDAG_NO_VERSION, voxdag_versions_count(&v, 0, &all, &cells)); SAYS(VOXDAG_OK, voxdag_versions_close(&v));
+    return 0;
+}
+
 /* The file of versions 0 and 2 of a world of side 8, where version 1 is forgotten, by its bytes; and what the world is. */
 static int versions(void)
 {
@@ -264,6 +383,7 @@ static int versions(void)
     bool is = false;
     SAYS(VOXDAG_OK, voxdag_same(&w, 2, 4, &is)); IS(is);
     SAYS(VOXDAG_OK, voxdag_close(&w));
+    if (held(file, sizeof file)) return 1;
     SAYS(VOXDAG_OK, voxdag_open(&w, 4096)); SAYS(VOXDAG_OK, voxdag_about(&w, &plan)); IS(plan.side == 4096 && plan.cap == 128 && !plan.keep && !plan.tints);
     SAYS(VOXDAG_OK, voxdag_close(&w));
     return 0;

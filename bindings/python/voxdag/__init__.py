@@ -14,15 +14,15 @@ there, and else memoryviews. `voxdag.slow` has the same world in plain Python, w
 
 from .errors import (
     BadDag, BadFile, BadJournal, BadPlan, BadScene, BadTint, BadWay, Closed, Forgotten, HistoryFull, IsNewest, IsOpen,
-    NoMemory, NoModel, NothingToRedo, NothingToUndo, NotExported, NotLegal, NoVersion, Null, OnlyAsked, OtherKind,
-    Outside, Refused, StoreFull, TooSmall,
+    NoMemory, NoModel, NothingToRedo, NothingToUndo, NotExported, NotLegal, NoVersion, Null, OtherKind, Outside,
+    Refused, StoreFull, TooSmall,
 )
 from .library import Library, load
-from .world import Box, Plan, Place, Scene, World
+from .world import Box, Plan, Place, Scene, Versions, World
 
 __all__ = [
     "BadDag", "BadFile", "BadJournal", "BadPlan", "BadScene", "BadTint", "BadWay", "Box", "Closed", "Forgotten",
     "HistoryFull", "IsNewest", "IsOpen", "Library", "NoMemory", "NoModel", "NothingToRedo", "NothingToUndo",
-    "NotExported", "NotLegal", "NoVersion", "Null", "OnlyAsked", "OtherKind", "Outside", "Place", "Plan", "Refused",
-    "Scene", "StoreFull", "TooSmall", "World", "load",
+    "NotExported", "NotLegal", "NoVersion", "Null", "OtherKind", "Outside", "Place", "Plan", "Refused", "Scene",
+    "StoreFull", "TooSmall", "Versions", "World", "load",
 ]

@@ -113,11 +113,15 @@ class BadScene(Refused):
 
 
 class BadDag(Refused):
+    """`at` is the place of the file's first fault, by the order of docs/DAG_FILES.md."""
+
     status, words = 23, "no file of versions"
 
-
-class OnlyAsked(Refused):
-    status, words = 24, "a world that is only asked can't be changed"
+    def __init__(self, at: Optional[int] = None) -> None:
+        super().__init__()
+        self.at = at
+        if at is not None:
+            self.args = (f"{self.words}: a broken rule at byte {at}",)
 
 
 class NotExported(Exception):

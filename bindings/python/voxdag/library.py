@@ -14,6 +14,8 @@ _HERE = pathlib.Path(__file__).resolve().parent
 
 
 class CHandle(c.Structure):
+    """A `voxdag_world`, and a `voxdag_versions`, which has the same fields."""
+
     _fields_ = [("is_open", c.c_bool), ("at", c.c_void_p)]
 
 
@@ -62,7 +64,6 @@ SIGNATURES: dict[str, list[Any]] = {
     "open_as": [_P(CPlan), _BYTES, c.c_size_t],
     "open_journal": [_P(CPlan), _BYTES, c.c_size_t, _BYTES, c.c_size_t, _P(_N)],
     "open_scene": [_P(CPlan), _BYTES, c.c_size_t, _P(CScene)],
-    "open_dag": [_BYTES, c.c_size_t],
     "about": [_P(CPlan)],
     "fill_tint": [_P(CBox), _N],
     "ball_tint": [_P(CPlace), _N, _N],
@@ -71,7 +72,13 @@ SIGNATURES: dict[str, list[Any]] = {
     "surface": [_N, _P(CBox), _BYTES, c.c_size_t, _P(c.c_size_t)],
     "flood": [_N, _P(CBox), _P(CPlace), _P(c.c_uint64), _BYTES, c.c_size_t, _P(c.c_size_t)],
     "dag": [_BYTES, c.c_size_t, _P(c.c_size_t)],
+    "versions_open": [_BYTES, c.c_size_t, _P(c.c_uint64)],
+    "versions_close": [],
+    "versions_side": [_P(_N)],
 }
+# A file of versions is asked as a world is.
+_ASKED = ["newest", "get", "count", "faces", "bounds", "ray", "same", "changes", "surface", "save", "flood"]
+SIGNATURES.update({f"versions_{name}": SIGNATURES[name] for name in _ASKED})
 
 
 class Library:

@@ -1,12 +1,12 @@
-"""The world of the library."""
+"""The world of the library, and a file of its versions."""
 
 from __future__ import annotations
 
 import ctypes as c
 import threading
-from typing import Any, Callable, NamedTuple, Optional, Sequence, Union
+from typing import Any, Callable, NamedTuple, Optional, Sequence, TypeVar, Union
 
-from .errors import BadPlan, BadScene, TooSmall, refusal
+from .errors import BadDag, BadPlan, BadScene, TooSmall, refusal
 from .library import CBox, CHandle, CPlace, CPlan, CScene, Library, load
 
 try:
@@ -99,22 +99,13 @@ def _rows(data: "bytearray | bytes", axes: Sequence[int]) -> Any:
     return memoryview(data).cast("B", list(axes)) if data else memoryview(data)
 
 
-class World:
-    """A voxel world with versions. Version 0 is empty, and each change that is accepted makes the next one.
+_H = TypeVar("_H", bound="_Held")
 
-    `side` is 4, 8, 16, .. 4,096, and with `tints` at most 1,024; `cap` the slots of a bucket of the store, 0 for the
-    usual 128; `keep` how many versions are held, 0 for all; `models` a VOX file whose models can be stamped. Use it in a
-    `with`, or call `close`. Calls of several threads take turns.
-    """
 
-    def __init__(self, side: int, *, tints: bool = False, cap: int = 0, keep: int = 0, models: Bytes = b"",
-                 library: Optional[Library] = None) -> None:
-        self._start(library)
-        file, size = _given(models)
-        if tints or keep:
-            self._call("open_as", _plan(side, cap, keep, tints), file, size)
-        else:
-            self._call("open_with", _number(side), _number(cap), file, size)
+class _Held:
+    """What a world and a file of versions have in common: they are closed, and asked."""
+
+    _kind = ""
 
     def _start(self, library: Optional[Library]) -> None:
         self._library = library or load()
@@ -122,51 +113,15 @@ class World:
         self._turn = threading.Lock()
         self._rooms: list[bytearray] = []
 
-    @classmethod
-    def open_journal(cls, journal: Bytes, *, models: Bytes = b"", cap: int = 0, keep: int = 0,
-                     library: Optional[Library] = None) -> "World":
-        """The world of a journal: the same versions, undos, redos and forgotten versions as when it was written. Raises
-        BadJournal or NotLegal with the line that doesn't fit."""
-        world = cls.__new__(cls)
-        world._start(library)
-        (file, size), (text, length) = _given(models), _given(journal)
-        line = c.c_uint32()
-        world._call("open_journal", _plan(0, cap, keep, False), file, size, text, length, c.byref(line), line=line)
-        return world
-
-    @classmethod
-    def open_scene(cls, file: Bytes, *, side: int = 0, tints: bool = False, cap: int = 0, keep: int = 0,
-                   library: Optional[Library] = None) -> Scene:
-        """The world of a VOX file's scene: its turned models, each stamped where it stands. Side 0 is the least that
-        holds all. Raises BadScene with the kind and the place of what is wrong."""
-        world = cls.__new__(cls)
-        world._start(library)
-        data, size = _given(file)
-        scene = CScene()
-        try:
-            world._call("open_scene", _plan(side, cap, keep, tints), data, size, c.byref(scene))
-        except BadScene:
-            raise BadScene(scene.kind, scene.at) from None
-        return Scene(world, scene.placements)
-
-    @classmethod
-    def open_dag(cls, file: Bytes, *, library: Optional[Library] = None) -> "World":
-        """The versions of a DAG file, as a world that is only asked."""
-        world = cls.__new__(cls)
-        world._start(library)
-        data, size = _given(file)
-        world._call("open_dag", data, size)
-        return world
-
     def _call(self, name: str, *arguments: Any, line: Optional[c.c_uint32] = None) -> None:
-        function = self._library.call(name)
+        function = self._library.call(self._kind + name)
         with self._turn:
             status = function(c.byref(self._handle), *arguments)
         if status:
             told = line.value if line is not None and status in (18, 19) else None
             raise refusal(status, told)
 
-    def __enter__(self) -> "World":
+    def __enter__(self: _H) -> _H:
         return self
 
     def __exit__(self, *_: object) -> None:
@@ -174,72 +129,12 @@ class World:
 
     def __del__(self) -> None:
         if getattr(self, "_handle", None) is not None and self._handle.is_open:
-            self._library.call("close")(c.byref(self._handle))
+            self._library.call(self._kind + "close")(c.byref(self._handle))
 
     def close(self) -> None:
-        """Gives the world's memory back. A world that is closed stays closed."""
+        """Gives the memory back. What is closed stays closed."""
         if self._handle.is_open:
             self._call("close")
-
-    @property
-    def about(self) -> Plan:
-        """How the world is open."""
-        plan = CPlan()
-        self._call("about", c.byref(plan))
-        return Plan(plan.side, plan.cap, plan.keep, bool(plan.tints))
-
-    # ---- changes: each answers the number of the version that it made
-
-    def _change(self, name: str, *arguments: Any) -> int:
-        change, newest = self._library.call(name), self._library.call("newest")
-        version = c.c_uint32()
-        with self._turn:
-            status = change(c.byref(self._handle), *arguments)
-            if not status:
-                newest(c.byref(self._handle), c.byref(version))
-        if status:
-            raise refusal(status)
-        return version.value
-
-    def fill(self, box: Sequence[int], tint: Optional[int] = None) -> int:
-        """Sets the cells of a box, with this tint in a world with tints."""
-        if tint is None:
-            return self._change("fill", _box(box))
-        return self._change("fill_tint", _box(box), _number(tint))
-
-    def erase(self, box: Sequence[int]) -> int:
-        """Clears the cells of a box."""
-        return self._change("erase", _box(box))
-
-    def ball(self, centre: Sequence[int], radius: int, tint: Optional[int] = None) -> int:
-        """Sets the cells at most `radius` away from the centre."""
-        if tint is None:
-            return self._change("ball", _place(centre), _number(radius))
-        return self._change("ball_tint", _place(centre), _number(radius), _number(tint))
-
-    def carve(self, centre: Sequence[int], radius: int) -> int:
-        """Clears the cells at most `radius` away from the centre."""
-        return self._change("carve", _place(centre), _number(radius))
-
-    def copy(self, box: Sequence[int], to: Sequence[int]) -> int:
-        """Puts the cells of a box where its least corner goes to `to`."""
-        return self._change("copy", _box(box), _place(to))
-
-    def stamp(self, model: int, at: Sequence[int]) -> int:
-        """Sets the cells of a model with its least corner at `at`; with tints they get its colours."""
-        return self._change("stamp", _number(model), _place(at))
-
-    def undo(self) -> int:
-        """Back to the version before the last change that isn't undone."""
-        return self._change("undo")
-
-    def redo(self) -> int:
-        """Forth again."""
-        return self._change("redo")
-
-    def forget(self, version: int) -> None:
-        """Gives a version up: it can't be asked or gone back to."""
-        self._call("forget", _number(version))
 
     # ---- questions: of a version, and they change nothing
 
@@ -250,23 +145,11 @@ class World:
         self._call("newest", c.byref(version))
         return version.value
 
-    def model_size(self, model: int) -> Place:
-        """The size of a model, counted from 0 in its file."""
-        size = CPlace()
-        self._call("model_size", _number(model), c.byref(size))
-        return Place(size.x, size.y, size.z)
-
     def get(self, version: int, at: Sequence[int]) -> bool:
         """Whether a cell is set."""
         is_set = c.c_bool()
         self._call("get", _number(version), _place(at), c.byref(is_set))
         return is_set.value
-
-    def colour(self, version: int, at: Sequence[int]) -> int:
-        """The tint of a cell, 0 where it is clear."""
-        tint = c.c_uint8()
-        self._call("colour", _number(version), _place(at), c.byref(tint))
-        return tint.value
 
     def count(self, version: int, box: Sequence[int]) -> int:
         """How many cells of a box are set."""
@@ -354,6 +237,133 @@ class World:
             cells[(x * b + y) * d + z] = tint
         return memoryview(cells).cast("B", [a, b, d])
 
+    def flood(self, version: int, box: Sequence[int], start: Sequence[int]) -> tuple[int, bytes]:
+        """The unset cells of a box, at most 256 each way, that steps from a cell lead to: how many, and their VOX file."""
+        number, part, place, cells = _number(version), _box(box), _place(start), c.c_uint64()
+        file = self._bytes(lambda out, size, needed: self._call("flood", number, part, place, c.byref(cells), out, size, needed))
+        return cells.value, file
+
+
+class World(_Held):
+    """A voxel world with versions. Version 0 is empty, and each change that is accepted makes the next one.
+
+    `side` is 4, 8, 16, .. 4,096, and with `tints` at most 1,024; `cap` the slots of a bucket of the store, 0 for the
+    usual 128; `keep` how many versions are held, 0 for all; `models` a VOX file whose models can be stamped. Use it in a
+    `with`, or call `close`. Calls of several threads take turns.
+    """
+
+    def __init__(self, side: int, *, tints: bool = False, cap: int = 0, keep: int = 0, models: Bytes = b"",
+                 library: Optional[Library] = None) -> None:
+        self._start(library)
+        file, size = _given(models)
+        if tints or keep:
+            self._call("open_as", _plan(side, cap, keep, tints), file, size)
+        else:
+            self._call("open_with", _number(side), _number(cap), file, size)
+
+    @classmethod
+    def open_journal(cls, journal: Bytes, *, models: Bytes = b"", cap: int = 0, keep: int = 0,
+                     library: Optional[Library] = None) -> "World":
+        """The world of a journal: the same versions, undos, redos and forgotten versions as when it was written. Raises
+        BadJournal or NotLegal with the line that doesn't fit."""
+        world = cls.__new__(cls)
+        world._start(library)
+        (file, size), (text, length) = _given(models), _given(journal)
+        line = c.c_uint32()
+        world._call("open_journal", _plan(0, cap, keep, False), file, size, text, length, c.byref(line), line=line)
+        return world
+
+    @classmethod
+    def open_scene(cls, file: Bytes, *, side: int = 0, tints: bool = False, cap: int = 0, keep: int = 0,
+                   library: Optional[Library] = None) -> Scene:
+        """The world of a VOX file's scene: its turned models, each stamped where it stands. Side 0 is the least that
+        holds all. Raises BadScene with the kind and the place of what is wrong."""
+        world = cls.__new__(cls)
+        world._start(library)
+        data, size = _given(file)
+        scene = CScene()
+        try:
+            world._call("open_scene", _plan(side, cap, keep, tints), data, size, c.byref(scene))
+        except BadScene:
+            raise BadScene(scene.kind, scene.at) from None
+        return Scene(world, scene.placements)
+
+    @property
+    def about(self) -> Plan:
+        """How the world is open."""
+        plan = CPlan()
+        self._call("about", c.byref(plan))
+        return Plan(plan.side, plan.cap, plan.keep, bool(plan.tints))
+
+    # ---- changes: each answers the number of the version that it made
+
+    def _change(self, name: str, *arguments: Any) -> int:
+        change, newest = self._library.call(name), self._library.call("newest")
+        version = c.c_uint32()
+        with self._turn:
+            status = change(c.byref(self._handle), *arguments)
+            if not status:
+                newest(c.byref(self._handle), c.byref(version))
+        if status:
+            raise refusal(status)
+        return version.value
+
+    def fill(self, box: Sequence[int], tint: Optional[int] = None) -> int:
+        """Sets the cells of a box, with this tint in a world with tints."""
+        if tint is None:
+            return self._change("fill", _box(box))
+        return self._change("fill_tint", _box(box), _number(tint))
+
+    def erase(self, box: Sequence[int]) -> int:
+        """Clears the cells of a box."""
+        return self._change("erase", _box(box))
+
+    def ball(self, centre: Sequence[int], radius: int, tint: Optional[int] = None) -> int:
+        """Sets the cells at most `radius` away from the centre."""
+        if tint is None:
+            return self._change("ball", _place(centre), _number(radius))
+        return self._change("ball_tint", _place(centre), _number(radius), _number(tint))
+
+    def carve(self, centre: Sequence[int], radius: int) -> int:
+        """Clears the cells at most `radius` away from the centre."""
+        return self._change("carve", _place(centre), _number(radius))
+
+    def copy(self, box: Sequence[int], to: Sequence[int]) -> int:
+        """Puts the cells of a box where its least corner goes to `to`."""
+        return self._change("copy", _box(box), _place(to))
+
+    def stamp(self, model: int, at: Sequence[int]) -> int:
+        """Sets the cells of a model with its least corner at `at`; with tints they get its colours."""
+        return self._change("stamp", _number(model), _place(at))
+
+    def undo(self) -> int:
+        """Back to the version before the last change that isn't undone."""
+        return self._change("undo")
+
+    def redo(self) -> int:
+        """Forth again."""
+        return self._change("redo")
+
+    def forget(self, version: int) -> None:
+        """Gives a version up: it can't be asked or gone back to."""
+        self._call("forget", _number(version))
+
+    # ---- more questions
+
+    def model_size(self, model: int) -> Place:
+        """The size of a model, counted from 0 in its file."""
+        size = CPlace()
+        self._call("model_size", _number(model), c.byref(size))
+        return Place(size.x, size.y, size.z)
+
+    def colour(self, version: int, at: Sequence[int]) -> int:
+        """The tint of a cell, 0 where it is clear."""
+        tint = c.c_uint8()
+        self._call("colour", _number(version), _place(at), c.byref(tint))
+        return tint.value
+
+    # ---- bytes
+
     def journal(self) -> bytes:
         """The text of the journal."""
         return self._bytes(lambda out, size, needed: self._call("journal", out, size, needed))
@@ -362,11 +372,29 @@ class World:
         """The file of the versions that are held."""
         return self._bytes(lambda out, size, needed: self._call("dag", out, size, needed))
 
-    def flood(self, version: int, box: Sequence[int], start: Sequence[int]) -> tuple[int, bytes]:
-        """The unset cells of a box, at most 256 each way, that steps from a cell lead to: how many, and their VOX file."""
-        number, part, place, cells = _number(version), _box(box), _place(start), c.c_uint64()
-        file = self._bytes(lambda out, size, needed: self._call("flood", number, part, place, c.byref(cells), out, size, needed))
-        return cells.value, file
+
+class Versions(_Held):
+    """A file of versions, which is only asked: each version has the number that it had in its world, and those that were
+    forgotten aren't there. Of a world with tints it has the store, of four times the side. Raises BadDag with the place
+    of the first fault. Use it in a `with`, or call `close`."""
+
+    _kind = "versions_"
+
+    def __init__(self, file: Bytes, *, library: Optional[Library] = None) -> None:
+        self._start(library)
+        data, size = _given(file)
+        at = c.c_uint64()
+        try:
+            self._call("open", data, size, c.byref(at))
+        except BadDag:
+            raise BadDag(at.value) from None
+
+    @property
+    def side(self) -> int:
+        """The side of the file's worlds."""
+        side = c.c_uint32()
+        self._call("side", c.byref(side))
+        return side.value
 
 
 def _plan(side: int, cap: int, keep: int, tints: bool) -> Any:

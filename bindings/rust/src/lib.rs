@@ -1,7 +1,7 @@
 //! A proved voxel world with versions, in safe Rust over `include/voxdag.h`.
 //!
 //! Every change answers the number of the version that it made, and each version can be asked until it is forgotten. A
-//! [`World`] is `Send` and not `Sync`: put it behind a `Mutex` to share it. What the header at hand doesn't have isn't
+//! [`World`] is `Send` and not `Sync`: put it behind a `Mutex` to share it. [`Versions`] are a file that is only asked. What the header at hand doesn't have isn't
 //! here either.
 
 use std::error::Error;
@@ -9,8 +9,8 @@ use std::ffi::c_void;
 use std::fmt;
 use std::ptr::null_mut;
 
-/// Why a call was refused: the statuses of `voxdag.h`. A journal's line is told where one is at fault, and of a scene
-/// the kind and the place of what is wrong.
+/// Why a call was refused: the statuses of `voxdag.h`. A journal's line is told where one is at fault, of a scene the
+/// kind and the place of what is wrong, and of a file of versions the place of its first fault.
 #[derive(Clone, Copy, Debug, PartialEq, Eq)]
 #[non_exhaustive]
 pub enum Refusal {
@@ -32,8 +32,7 @@ pub enum Refusal {
     OtherKind,
     BadTint,
     BadScene { kind: u32, at: u32 },
-    BadDag,
-    OnlyAsked,
+    BadDag { at: u64 },
     Other(u32),
 }
 
@@ -58,8 +57,7 @@ impl Refusal {
             20 => Refusal::OtherKind,
             21 => Refusal::BadTint,
             22 => Refusal::BadScene { kind: 0, at: 0 },
-            23 => Refusal::BadDag,
-            24 => Refusal::OnlyAsked,
+            23 => Refusal::BadDag { at: 0 },
             other => Refusal::Other(other),
         }
     }
@@ -86,8 +84,7 @@ impl fmt::Display for Refusal {
             Refusal::OtherKind => write!(f, "a call for the other kind of world: with tints, or without"),
             Refusal::BadTint => write!(f, "a tint isn't from 1 to 255"),
             Refusal::BadScene { kind, at } => write!(f, "the file's scene breaks a rule: kind {kind}, at {at}"),
-            Refusal::BadDag => write!(f, "no file of versions"),
-            Refusal::OnlyAsked => write!(f, "a world that is only asked can't be changed"),
+            Refusal::BadDag { at } => write!(f, "no file of versions: a broken rule at byte {at}"),
             Refusal::Other(status) => write!(f, "status {status}"),
         }
     }
@@ -220,8 +217,23 @@ calls! {
 }
 #[cfg(voxdag = "open_scene")]
 calls! { voxdag_open_scene(plan: *const Plan, file: *const u8, size: usize, scene: *mut Scene); }
-#[cfg(voxdag = "open_dag")]
-calls! { voxdag_open_dag(file: *const u8, size: usize); }
+#[cfg(voxdag = "versions_open")]
+calls! {
+    voxdag_versions_open(file: *const u8, size: usize, at: *mut u64);
+    voxdag_versions_close();
+    voxdag_versions_side(side: *mut u32);
+    voxdag_versions_newest(version: *mut u32);
+    voxdag_versions_get(version: u32, at: *const Place, set: *mut bool);
+    voxdag_versions_count(version: u32, part: *const Boxed, cells: *mut u64);
+    voxdag_versions_faces(version: u32, part: *const Boxed, faces: *mut u64);
+    voxdag_versions_bounds(version: u32, some: *mut bool, least: *mut Boxed);
+    voxdag_versions_ray(version: u32, from: *const Place, dx: i32, dy: i32, dz: i32, some: *mut bool, hit: *mut Place);
+    voxdag_versions_same(a: u32, b: u32, same: *mut bool);
+    voxdag_versions_changes(a: u32, b: u32, some: *mut bool, least: *mut Boxed);
+    voxdag_versions_save(version: u32, part: *const Boxed, out: *mut u8, size: usize, needed: *mut usize);
+    voxdag_versions_surface(version: u32, part: *const Boxed, out: *mut Shown, room: usize, needed: *mut usize);
+    voxdag_versions_flood(version: u32, part: *const Boxed, from: *const Place, cells: *mut u64, out: *mut u8, size: usize, needed: *mut usize);
+}
 #[cfg(voxdag = "about")]
 calls! { voxdag_about(plan: *mut Plan); }
 #[cfg(voxdag = "fill_tint")]
@@ -297,14 +309,6 @@ impl World {
             Err(Refusal::BadScene { .. }) => Err(Refusal::BadScene { kind: scene.kind, at: scene.at }),
             Err(other) => Err(other),
         }
-    }
-
-    /// The versions of a DAG file, as a world that is only asked.
-    #[cfg(voxdag = "open_dag")]
-    pub fn open_dag(file: &[u8]) -> Answer<World> {
-        let mut w = World::closed();
-        told(unsafe { voxdag_open_dag(&mut w.0, file.as_ptr(), file.len()) })?;
-        Ok(w)
     }
 
     /// How the world is open: its side, its cap as a number from 1 to 256, how many of its last versions it keeps, 0 for all, and its
@@ -479,6 +483,112 @@ impl World {
     pub fn dag(&mut self) -> Answer<Vec<u8>> {
         let handle = &mut self.0;
         whole(|out, size, needed| unsafe { voxdag_dag(handle, out, size, needed) })
+    }
+}
+
+/// A file of versions that is only asked. It is closed when it is dropped.
+#[cfg(voxdag = "versions_open")]
+pub struct Versions(Handle);
+
+#[cfg(voxdag = "versions_open")]
+unsafe impl Send for Versions {}
+
+#[cfg(voxdag = "versions_open")]
+impl Versions {
+    /// The file of these bytes, of which a copy is kept.
+    pub fn open(file: &[u8]) -> Answer<Versions> {
+        let (mut v, mut at) = (Versions(Handle { is_open: false, at: null_mut() }), 0);
+        match told(unsafe { voxdag_versions_open(&mut v.0, file.as_ptr(), file.len(), &mut at) }) {
+            Ok(()) => Ok(v),
+            Err(Refusal::BadDag { .. }) => Err(Refusal::BadDag { at }),
+            Err(other) => Err(other),
+        }
+    }
+
+    /// The side of its worlds: of a world with tints that of its store, which is four times as long.
+    pub fn side(&mut self) -> Answer<u32> {
+        let mut side = 0;
+        told(unsafe { voxdag_versions_side(&mut self.0, &mut side) })?;
+        Ok(side)
+    }
+
+    /// The greatest number of a version.
+    pub fn newest(&mut self) -> Answer<u32> {
+        let mut version = 0;
+        told(unsafe { voxdag_versions_newest(&mut self.0, &mut version) })?;
+        Ok(version)
+    }
+
+    pub fn get(&mut self, version: u32, at: Place) -> Answer<bool> {
+        let mut set = false;
+        told(unsafe { voxdag_versions_get(&mut self.0, version, &at, &mut set) })?;
+        Ok(set)
+    }
+
+    pub fn count(&mut self, version: u32, part: Boxed) -> Answer<u64> {
+        let mut cells = 0;
+        told(unsafe { voxdag_versions_count(&mut self.0, version, &part, &mut cells) })?;
+        Ok(cells)
+    }
+
+    pub fn faces(&mut self, version: u32, part: Boxed) -> Answer<u64> {
+        let mut faces = 0;
+        told(unsafe { voxdag_versions_faces(&mut self.0, version, &part, &mut faces) })?;
+        Ok(faces)
+    }
+
+    /// The least box of all set cells, where there are any.
+    pub fn bounds(&mut self, version: u32) -> Answer<Option<Boxed>> {
+        let (mut some, mut least) = (false, Boxed::default());
+        told(unsafe { voxdag_versions_bounds(&mut self.0, version, &mut some, &mut least) })?;
+        Ok(some.then_some(least))
+    }
+
+    /// The first set cell on the ray with these steps on the three axes, where there is one.
+    pub fn ray(&mut self, version: u32, from: Place, steps: [i32; 3]) -> Answer<Option<Place>> {
+        let (mut some, mut hit) = (false, Place::default());
+        let [dx, dy, dz] = steps;
+        told(unsafe { voxdag_versions_ray(&mut self.0, version, &from, dx, dy, dz, &mut some, &mut hit) })?;
+        Ok(some.then_some(hit))
+    }
+
+    pub fn same(&mut self, a: u32, b: u32) -> Answer<bool> {
+        let mut same = false;
+        told(unsafe { voxdag_versions_same(&mut self.0, a, b, &mut same) })?;
+        Ok(same)
+    }
+
+    /// The least box of all cells that differ between two versions, where some do.
+    pub fn changes(&mut self, a: u32, b: u32) -> Answer<Option<Boxed>> {
+        let (mut some, mut least) = (false, Boxed::default());
+        told(unsafe { voxdag_versions_changes(&mut self.0, a, b, &mut some, &mut least) })?;
+        Ok(some.then_some(least))
+    }
+
+    /// What can be seen of a box of a version, each cell with tint 1.
+    pub fn surface(&mut self, version: u32, part: Boxed) -> Answer<Vec<Shown>> {
+        let handle = &mut self.0;
+        whole(|out, room, needed| unsafe { voxdag_versions_surface(handle, version, &part, out, room, needed) })
+    }
+
+    /// The VOX file of a box of a version.
+    pub fn save(&mut self, version: u32, part: Boxed) -> Answer<Vec<u8>> {
+        let handle = &mut self.0;
+        whole(|out, size, needed| unsafe { voxdag_versions_save(handle, version, &part, out, size, needed) })
+    }
+
+    /// How many unset cells of a box steps from a cell lead to, and their VOX file.
+    pub fn flood(&mut self, version: u32, part: Boxed, from: Place) -> Answer<(u64, Vec<u8>)> {
+        let (handle, mut cells) = (&mut self.0, 0);
+        let file = whole(|out, size, needed| unsafe { voxdag_versions_flood(handle, version, &part, &from, &mut cells, out, size, needed) })?;
+        Ok((cells, file))
+    }
+}
+
+#[cfg(voxdag = "versions_open")]
+impl Drop for Versions {
+    fn drop(&mut self) {
+        unsafe { voxdag_versions_close(&mut self.0) };
     }
 }
 

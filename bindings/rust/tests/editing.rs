@@ -70,6 +70,31 @@ fn a_world_tells_how_it_is_open_and_gives_its_file_of_versions() -> Result<(), R
     Ok(())
 }
 
+#[cfg(voxdag = "versions_open")]
+#[test]
+fn a_file_of_versions_is_asked() -> Result<(), Refusal> {
+    use voxdag::Versions;
+    let (all, two) = (boxed(place(0, 0, 0), place(8, 8, 8)), boxed(place(1, 2, 3), place(2, 1, 1)));
+    let mut world = World::open(8, 0, &[])?;
+    assert_eq!((world.fill(two)?, world.erase(boxed(two.at, place(1, 1, 1)))?), (1, 2));
+    world.forget(0)?;
+    let mut file = world.dag()?;
+    let mut versions = Versions::open(&file)?;
+    assert_eq!((versions.side()?, versions.newest()?), (8, 2));
+    assert_eq!((versions.get(1, two.at)?, versions.get(2, two.at)?), (true, false));
+    assert_eq!((versions.count(1, all)?, versions.faces(1, all)?), (2, 10));
+    assert_eq!(versions.bounds(1)?, Some(two));
+    assert_eq!(versions.ray(1, place(7, 2, 3), [-1, 0, 0])?, Some(place(2, 2, 3)));
+    assert_eq!((versions.changes(1, 2)?, versions.same(1, 2)?, versions.same(2, 2)?), (Some(boxed(two.at, place(1, 1, 1))), false, true));
+    assert_eq!((versions.surface(1, all)?, versions.save(2, two)?), (world.surface(1, all)?, world.save(2, two)?));
+    assert_eq!(versions.flood(2, two, two.at)?, world.flood(2, two, two.at)?);
+    assert_eq!((versions.count(0, all), versions.bounds(3)), (Err(Refusal::NoVersion), Err(Refusal::NoVersion)));
+    assert_eq!(versions.count(1, boxed(two.at, place(8, 1, 1))), Err(Refusal::Outside));
+    file.push(0);
+    assert_eq!(Versions::open(&file).err(), Some(Refusal::BadDag { at: file.len() as u64 - 1 }));
+    Ok(())
+}
+
 #[cfg(all(voxdag = "changes", voxdag = "surface"))]
 #[test]
 fn what_changed_and_what_can_be_seen() -> Result<(), Refusal> {

@@ -8,3 +8,4 @@ pub mod ReplayLaws
 pub mod MadeLaws
 pub mod SortLaws
 pub mod ToldLaws
+pub mod VersionLaws

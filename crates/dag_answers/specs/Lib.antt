@@ -1,5 +1,6 @@
 pub mod Questions
 pub mod Looks
+pub mod OfVersions
 pub mod Legality
 pub mod Histories
 pub mod Replays

@@ -83,7 +83,7 @@ pub fn ask_version(view: &mut DagView<'_>, version: u32, question: Question) -> 
     Some(answer)
 }
 
-fn let_go(view: &DagView<'_>, root: Option<Share>) {
+pub(crate) fn let_go(view: &DagView<'_>, root: Option<Share>) {
     if let Some(share) = root {
         view.drop_root(share);
     }

@@ -13,9 +13,11 @@ mod legality;
 mod making;
 mod placing;
 mod questions;
+mod versions;
 
 pub use asking::{LookRefused, ask_version, look};
 pub use laws::looks_are_judged;
 pub use legality::first_illegal;
 pub use making::{HistoryRefused, file_of_history, world_of_history};
 pub use questions::{SpelledQuestion, SpelledStep, SpelledWay};
+pub use versions::{version_changes, version_file, version_region, version_same, version_surface};

@@ -6,3 +6,5 @@ pub mod Changing
 pub mod Opening
 pub mod GoingOn
 pub mod Scenes
+pub mod FileAsBox
+pub mod FileAsks

@@ -1,5 +1,5 @@
 -- What a call does through a handle, from what it does to the world that is held.
-use Rattle.std.proofs.Common.{◌≡◌, Bool, ℕ, Option, Some, None, List, sym, ◌∙◌, ap, subst}
+use Rattle.std.proofs.Common.{◌≡◌, Bool, ℕ, Option, Some, None, List, refl, sym, ◌∙◌, ap, subst}
 use Rattle.std.proofs.Common.{ℤ, SFits, w16, to_z, of_z}
 use Rattle.vw_cell.specs.declared.cells.Cell.{Cell}
 use Rattle.history_model.specs.Ways.{Heading, heading_of}
@@ -9,29 +9,37 @@ use Rattle.voxdag_c.specs.declared.held.worlds.CWorld.{CWorld}
 use Rattle.voxdag_c.specs.held.Calls.{ByHandle, OpensHandle, ClosesHandle, IsBegun, Refuses, WorldAsks}
 use Rattle.voxdag_c.proofs.OfHeld.Fitting.{same_steps}
 
-module _ (Untouched : Type 0) (Does : CWorld → ℕ → CWorld → Type 0) where
-  pub through_closed : (old new : Option CWorld) → old ≡ None → new ≡ None → Untouched
+module _ {X : Type 0} (Untouched : Type 0) (Does : X → ℕ → X → Type 0) where
+  pub through_closed : (old new : Option X) → old ≡ None → new ≡ None → Untouched
       → ByHandle Untouched Does old 1 new
   through_closed old new was now same =
-      subst (λ (o : Option CWorld). ByHandle Untouched Does o 1 new) (sym was)
-      (subst (λ (n : Option CWorld). ByHandle Untouched Does None 1 n) (sym now)
+      subst (λ (o : Option X). ByHandle Untouched Does o 1 new) (sym was)
+      (subst (λ (n : Option X). ByHandle Untouched Does None 1 n) (sym now)
       (ByHandle.closed same))
 
-  pub through_open : (old new : Option CWorld) (w v : CWorld) (status : ℕ) → Some w ≡ old
+  pub through_open : (old new : Option X) (w v : X) (status : ℕ) → Some w ≡ old
       → new ≡ Some v → Does w status v
       → ByHandle Untouched Does old status new
   through_open old new w v status was now does =
-      subst (λ (o : Option CWorld). ByHandle Untouched Does o status new) was
-      (subst (λ (n : Option CWorld). ByHandle Untouched Does (Some w) status n) (sym now)
+      subst (λ (o : Option X). ByHandle Untouched Does o status new) was
+      (subst (λ (n : Option X). ByHandle Untouched Does (Some w) status n) (sym now)
       (ByHandle.does w v status does))
 
 -- a call that changes nothing
-pub through_asks : (Untouched : Type 0) (Asks : CWorld → ℕ → Type 0) (old new : Option CWorld)
-    (w u v : CWorld) (status : ℕ) → Some w ≡ old → u ≡ w → new ≡ Some v
+pub through_asks : {X : Type 0} (Untouched : Type 0) (Asks : X → ℕ → Type 0) (old new : Option X)
+    (w u v : X) (status : ℕ) → Some w ≡ old → u ≡ w → new ≡ Some v
     → v ≡ u → Asks u status → ByHandle Untouched (λ x n y. (y ≡ x) × Asks x n) old status new
-through_asks Untouched Asks old new w u v status was is now same asks =
+through_asks {X} Untouched Asks old new w u v status was is now same asks =
     through_open Untouched (λ x n y. (y ≡ x) × Asks x n) old new u v status
-    (ap (λ (x : CWorld). Some x) is ∙ was) now (same, asks)
+    (ap (λ (x : X). Some x) is ∙ was) now (same, asks)
+
+-- a call that only reads
+pub through_reads : {X : Type 0} (Untouched : Type 0) (Asks : X → ℕ → Type 0) (old new : Option X)
+    (w u : X) (status : ℕ) → Some w ≡ old → u ≡ w → new ≡ Some w → Asks u status
+    → ByHandle Untouched (λ x n y. (y ≡ x) × Asks x n) old status new
+through_reads {X} Untouched Asks old new w u status was is now asks =
+    through_open Untouched (λ x n y. (y ≡ x) × Asks x n) old new w w status was now
+    (refl, subst (λ (x : X). Asks x status) is asks)
 
 -- a ray by steps of 16 bits
 pub by_steps : {w : CWorld} {version : ℕ} {from : Cell} {Written : Answer → Type 0}
@@ -70,14 +78,14 @@ module _ (coloured : Bool) (side cap keep : ℕ) (bytes : List ℕ) where
       (subst (λ (n : Option CWorld). OpensHandle coloured side cap keep bytes None status n) (sym now)
       (OpensHandle.refused status why))
 
-pub closes_none : (old new : Option CWorld) → old ≡ None → new ≡ None → ClosesHandle old 1 new
-closes_none old new was now =
-    subst (λ (o : Option CWorld). ClosesHandle o 1 new) (sym was)
-    (subst (λ (n : Option CWorld). ClosesHandle None 1 n) (sym now) ClosesHandle.closed)
+pub closes_none : {X : Type 0} (old new : Option X) → old ≡ None → new ≡ None → ClosesHandle old 1 new
+closes_none {X} old new was now =
+    subst (λ (o : Option X). ClosesHandle o 1 new) (sym was)
+    (subst (λ (n : Option X). ClosesHandle None 1 n) (sym now) ClosesHandle.closed)
 
-pub closes_some : (old new : Option CWorld) (w : CWorld) → Some w ≡ old → new ≡ None
+pub closes_some : {X : Type 0} (old new : Option X) (w : X) → Some w ≡ old → new ≡ None
     → ClosesHandle old 0 new
-closes_some old new w was now =
-    subst (λ (o : Option CWorld). ClosesHandle o 0 new) was
-    (subst (λ (n : Option CWorld). ClosesHandle (Some w) 0 n) (sym now)
+closes_some {X} old new w was now =
+    subst (λ (o : Option X). ClosesHandle o 0 new) was
+    (subst (λ (n : Option X). ClosesHandle (Some w) 0 n) (sym now)
     (ClosesHandle.given_back w))

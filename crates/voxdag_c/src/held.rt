@@ -7,6 +7,10 @@
 
 mod asks;
 mod facts;
+mod file_handle;
+mod file_looks;
+mod file_ptr;
+mod files;
 mod handle;
 mod kept;
 mod looks;
@@ -21,6 +25,9 @@ pub mod statuses;
 mod tints;
 mod worlds;
 
+pub use file_handle::{FileHandle, file_handles_cross};
+pub use file_ptr::FilePtr;
+pub use files::CFile;
 pub use handle::{Handle, handles_cross};
 pub use kept::WorldPtr;
 pub use places::{CBox, CPlace};

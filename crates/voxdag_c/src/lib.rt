@@ -2,7 +2,7 @@
 //!
 //! It touches memory alone, its own and what C hands in. Each number that C hands in is tested
 //! before it counts. A status is 0 where a command was carried out, and else says why not. What
-//! each call does is said in `Calls.antt`, `Facts.antt` and `GoingOn.antt` of `specs/held/`, and
+//! each call does is said in `Calls.antt`, `Facts.antt`, `Files.antt` and `GoingOn.antt` of `specs/held/`, and
 //! `include/voxdag.h` has all of this in the words of C.
 #![tactic(auto)]
 
@@ -20,10 +20,13 @@ ghost use Rattle.voxdag_c.specs.held.Calls.{ByHandle, WorldChanges, WorldForgets
 ghost use Rattle.voxdag_c.specs.held.Calls.{ByKind, WorldDiffers, WorldShows, WorldFloods, WorldTints, act_here};
 ghost use Rattle.voxdag_c.specs.held.Calls.{PutsNewest, PutsSize, WritesNothing, ClosesHandle};
 ghost use Rattle.voxdag_c.specs.held.Facts.{WorldFiles, PutsPlan};
+ghost use Rattle.voxdag_c.specs.held.Files.{TellsSide, TellsNewest, FileAsks, FileCompares, FileDiffers, FileSaves, FileShows, FileFloods, OpensDag};
 ghost use Rattle.voxdag_c.specs.held.GoingOn.{GoesOnInHandle};
 ghost use Rattle.voxdag_c.specs.held.Scenes.{OpensScene};
 
-use crate::held::{CBox, CPlace, CPlan, CScene, CShown, CWorld, Handle, statuses as status};
+use crate::held::{
+    CBox, CFile, CPlace, CPlan, CScene, CShown, CWorld, FileHandle, Handle, statuses as status,
+};
 use std::alloc::Global;
 
 /// Sets the cells of a box.
@@ -791,6 +794,357 @@ pub extern "C" fn voxdag_c_close(alloc: Global, handle: &mut Handle) -> u32
         Some(world) => {
             drop(world);
             status::DONE
+        }
+    }
+}
+
+/// Opens the file of versions that these bytes are, of which a copy is kept; where they are none, the
+/// place of the first fault is told.
+#[unsafe(no_mangle)]
+pub extern "C" fn voxdag_c_versions_open(
+    alloc: Global,
+    handle: &mut FileHandle,
+    file: &[u8],
+    at: &mut u64,
+) -> u32
+    ensures { OpensDag file.now at.old at.new handle.old.kept.value result handle.new.kept.value }
+{
+    match handle.take(alloc) {
+        Some(held) => {
+            handle.put(held);
+            status::IS_OPEN
+        }
+        None => match CFile::from_bytes(alloc, file, at) {
+            Ok(held) => {
+                handle.put(held);
+                status::DONE
+            }
+            Err(status) => status,
+        },
+    }
+}
+
+/// Closes the file, and gives its memory back.
+#[unsafe(no_mangle)]
+pub extern "C" fn voxdag_c_versions_close(alloc: Global, handle: &mut FileHandle) -> u32
+    ensures { ClosesHandle handle.old.kept.value result handle.new.kept.value }
+{
+    match handle.take(alloc) {
+        None => status::CLOSED,
+        Some(held) => {
+            drop(held);
+            status::DONE
+        }
+    }
+}
+
+/// The side of the file's worlds in cells.
+#[tactic(auto, using(crate::proofs::Through::through_closed, crate::proofs::Through::through_open))]
+#[unsafe(no_mangle)]
+pub extern "C" fn voxdag_c_versions_side(
+    alloc: Global,
+    handle: &mut FileHandle,
+    side: &mut u32,
+) -> u32
+    ensures { ByHandle (side.new ≡ side.old)
+        (λ f status g. (g ≡ f) × TellsSide f side.new status)
+        handle.old.kept.value result handle.new.kept.value }
+{
+    match handle.take(alloc) {
+        None => status::CLOSED,
+        Some(held) => {
+            let status = held.put_side(side);
+            handle.put(held);
+            status
+        }
+    }
+}
+
+/// The greatest number of a version, where the file has one.
+#[tactic(auto, using(crate::proofs::Through::through_closed, crate::proofs::Through::through_open))]
+#[unsafe(no_mangle)]
+pub extern "C" fn voxdag_c_versions_newest(
+    alloc: Global,
+    handle: &mut FileHandle,
+    version: &mut u32,
+) -> u32
+    ensures { ByHandle (version.new ≡ version.old)
+        (λ f status g. (g ≡ f) × TellsNewest f version.old version.new status)
+        handle.old.kept.value result handle.new.kept.value }
+{
+    match handle.take(alloc) {
+        None => status::CLOSED,
+        Some(held) => {
+            let status = held.put_newest(version);
+            handle.put(held);
+            status
+        }
+    }
+}
+
+/// Whether a cell of a version is set.
+#[tactic(auto, using(crate::proofs::Through::through_closed, crate::proofs::Through::through_open))]
+#[unsafe(no_mangle)]
+pub extern "C" fn voxdag_c_versions_get(
+    alloc: Global,
+    handle: &mut FileHandle,
+    version: u32,
+    place: &CPlace,
+    set: &mut bool,
+) -> u32
+    ensures { ByHandle (set.new ≡ set.old)
+        (λ f status g. (g ≡ f) × FileAsks f version (questions.Get (cell_of_c_place place.now))
+        (λ a. a ≡ answers.Is set.new) (set.new ≡ set.old) status)
+        handle.old.kept.value result handle.new.kept.value }
+{
+    match handle.take(alloc) {
+        None => status::CLOSED,
+        Some(held) => {
+            let status = held.get(version, *place, set);
+            handle.put(held);
+            status
+        }
+    }
+}
+
+/// How many cells of a box of a version are set.
+#[tactic(auto, using(crate::proofs::Through::through_closed, crate::proofs::Through::through_open))]
+#[unsafe(no_mangle)]
+pub extern "C" fn voxdag_c_versions_count(
+    alloc: Global,
+    handle: &mut FileHandle,
+    version: u32,
+    part: &CBox,
+    cells: &mut u64,
+) -> u32
+    ensures { ByHandle (cells.new ≡ cells.old)
+        (λ f status g. (g ≡ f) × FileAsks f version (questions.Count (box_of part.now))
+        (λ a. a ≡ answers.Count cells.new) (cells.new ≡ cells.old) status)
+        handle.old.kept.value result handle.new.kept.value }
+{
+    match handle.take(alloc) {
+        None => status::CLOSED,
+        Some(held) => {
+            let status = held.count(version, *part, cells);
+            handle.put(held);
+            status
+        }
+    }
+}
+
+/// How many pairs there are of a set cell of the box and a neighbour that isn't set.
+#[tactic(auto, using(crate::proofs::Through::through_closed, crate::proofs::Through::through_open))]
+#[unsafe(no_mangle)]
+pub extern "C" fn voxdag_c_versions_faces(
+    alloc: Global,
+    handle: &mut FileHandle,
+    version: u32,
+    part: &CBox,
+    faces: &mut u64,
+) -> u32
+    ensures { ByHandle (faces.new ≡ faces.old)
+        (λ f status g. (g ≡ f) × FileAsks f version (questions.Faces (box_of part.now))
+        (λ a. a ≡ answers.Faces faces.new) (faces.new ≡ faces.old) status)
+        handle.old.kept.value result handle.new.kept.value }
+{
+    match handle.take(alloc) {
+        None => status::CLOSED,
+        Some(held) => {
+            let status = held.faces(version, *part, faces);
+            handle.put(held);
+            status
+        }
+    }
+}
+
+/// The least box that has all set cells of a version, where some are set.
+#[tactic(auto, using(crate::proofs::Through::through_closed, crate::proofs::Through::through_open))]
+#[unsafe(no_mangle)]
+pub extern "C" fn voxdag_c_versions_bounds(
+    alloc: Global,
+    handle: &mut FileHandle,
+    version: u32,
+    some: &mut bool,
+    least: &mut CBox,
+) -> u32
+    ensures { ByHandle ((some.new ≡ some.old) × (least.new ≡ least.old))
+        (λ f status g. (g ≡ f) × FileAsks f version questions.Bounds
+        (λ a. (a ≡ answers.Extent (extent_of some.new least.new))
+        × (some.new ≡ false → least.new ≡ least.old))
+        ((some.new ≡ some.old) × (least.new ≡ least.old)) status)
+        handle.old.kept.value result handle.new.kept.value }
+{
+    match handle.take(alloc) {
+        None => status::CLOSED,
+        Some(held) => {
+            let status = held.bounds(version, some, least);
+            handle.put(held);
+            status
+        }
+    }
+}
+
+/// The first set cell of a version on a ray from the centre of a cell, where one is hit.
+#[tactic(auto, using(crate::proofs::Through::through_closed, crate::proofs::Through::through_open))]
+#[unsafe(no_mangle)]
+pub extern "C" fn voxdag_c_versions_ray(
+    alloc: Global,
+    handle: &mut FileHandle,
+    version: u32,
+    from: &CPlace,
+    dx: i16,
+    dy: i16,
+    dz: i16,
+    some: &mut bool,
+    hit: &mut CPlace,
+) -> u32
+    ensures { ByHandle ((some.new ≡ some.old) × (hit.new ≡ hit.old))
+        (λ f status g. (g ≡ f) × FileAsks f version
+        (questions.Ray (cell_of_c_place from.now) (heading_of dx dy dz))
+        (λ a. (a ≡ answers.Hit (hit_of some.new hit.new))
+        × (some.new ≡ false → hit.new ≡ hit.old))
+        ((some.new ≡ some.old) × (hit.new ≡ hit.old)) status)
+        handle.old.kept.value result handle.new.kept.value }
+{
+    match handle.take(alloc) {
+        None => status::CLOSED,
+        Some(held) => {
+            let status = held.ray(version, *from, dx, dy, dz, some, hit);
+            handle.put(held);
+            status
+        }
+    }
+}
+
+/// Whether two versions have the same cells.
+#[tactic(auto, using(crate::proofs::Through::through_closed, crate::proofs::Through::through_open))]
+#[unsafe(no_mangle)]
+pub extern "C" fn voxdag_c_versions_same(
+    alloc: Global,
+    handle: &mut FileHandle,
+    a: u32,
+    b: u32,
+    same: &mut bool,
+) -> u32
+    ensures { ByHandle (same.new ≡ same.old)
+        (λ f status g. (g ≡ f) × FileCompares f a b same.old same.new status)
+        handle.old.kept.value result handle.new.kept.value }
+{
+    match handle.take(alloc) {
+        None => status::CLOSED,
+        Some(held) => {
+            let status = held.same(a, b, same);
+            handle.put(held);
+            status
+        }
+    }
+}
+
+/// The least box of all cells that differ in two versions, where any do.
+#[tactic(auto, using(crate::proofs::Through::through_closed, crate::proofs::Through::through_open))]
+#[unsafe(no_mangle)]
+pub extern "C" fn voxdag_c_versions_changes(
+    alloc: Global,
+    handle: &mut FileHandle,
+    a: u32,
+    b: u32,
+    some: &mut bool,
+    least: &mut CBox,
+) -> u32
+    ensures { ByHandle ((some.new ≡ some.old) × (least.new ≡ least.old))
+        (λ f status g. (g ≡ f) × FileDiffers f a b
+        (λ found. (found ≡ extent_of some.new least.new)
+        × (some.new ≡ false → least.new ≡ least.old))
+        ((some.new ≡ some.old) × (least.new ≡ least.old)) status)
+        handle.old.kept.value result handle.new.kept.value }
+{
+    match handle.take(alloc) {
+        None => status::CLOSED,
+        Some(held) => {
+            let status = held.changes(a, b, some, least);
+            handle.put(held);
+            status
+        }
+    }
+}
+
+/// The VOX file of a box of a version, and how many bytes it has.
+#[tactic(auto, using(crate::proofs::Through::through_closed, crate::proofs::Through::through_open))]
+#[unsafe(no_mangle)]
+pub extern "C" fn voxdag_c_versions_save(
+    alloc: Global,
+    handle: &mut FileHandle,
+    version: u32,
+    part: &CBox,
+    out: &mut [u8],
+    needed: &mut usize,
+) -> u32
+    ensures { ByHandle (WritesNothing out.old out.new needed.old needed.new)
+        (λ f status g. (g ≡ f) × FileSaves f version (box_of part.now) out.old out.new
+        needed.old needed.new status)
+        handle.old.kept.value result handle.new.kept.value }
+{
+    match handle.take(alloc) {
+        None => status::CLOSED,
+        Some(held) => {
+            let status = held.save(alloc, version, *part, out, needed);
+            handle.put(held);
+            status
+        }
+    }
+}
+
+/// The cells of a box of a version that can be seen, and how many they are.
+#[tactic(auto, using(crate::proofs::Through::through_closed, crate::proofs::Through::through_open))]
+#[unsafe(no_mangle)]
+pub extern "C" fn voxdag_c_versions_surface(
+    alloc: Global,
+    handle: &mut FileHandle,
+    version: u32,
+    part: &CBox,
+    out: &mut [CShown],
+    needed: &mut usize,
+) -> u32
+    ensures { ByHandle (WritesNothing out.old out.new needed.old needed.new)
+        (λ f status g. (g ≡ f) × FileShows f version (box_of part.now) out.old out.new
+        needed.old needed.new status)
+        handle.old.kept.value result handle.new.kept.value }
+{
+    match handle.take(alloc) {
+        None => status::CLOSED,
+        Some(held) => {
+            let status = held.surface(alloc, version, *part, out, needed);
+            handle.put(held);
+            status
+        }
+    }
+}
+
+/// The region of a box of a version that is connected with a cell: how many cells, and its VOX
+/// file.
+#[tactic(auto, using(crate::proofs::Through::through_closed, crate::proofs::Through::through_open))]
+#[unsafe(no_mangle)]
+pub extern "C" fn voxdag_c_versions_flood(
+    alloc: Global,
+    handle: &mut FileHandle,
+    version: u32,
+    part: &CBox,
+    from: &CPlace,
+    cells: &mut u64,
+    out: &mut [u8],
+    needed: &mut usize,
+) -> u32
+    ensures { ByHandle ((cells.new ≡ cells.old) × WritesNothing out.old out.new needed.old needed.new)
+        (λ f status g. (g ≡ f) × FileFloods f version (box_of part.now) (cell_of_c_place from.now)
+        cells.old cells.new out.old out.new needed.old needed.new status)
+        handle.old.kept.value result handle.new.kept.value }
+{
+    match handle.take(alloc) {
+        None => status::CLOSED,
+        Some(held) => {
+            let status = held.flood(alloc, version, *part, *from, cells, out, needed);
+            handle.put(held);
+            status
         }
     }
 }

@@ -60,11 +60,11 @@ cells_of_version w version = world_has w.open.models w.open.log.records version
 abbrev pub tints_at : CWorld → ℕ → Cell → ℕ
 tints_at w version = world_tint w.open.models w.open.log.records version
 
--- a call through a handle that may hold no world; where it holds none, no output is touched
-pub data ByHandle (Untouched : Type 0) (Does : CWorld → ℕ → CWorld → Type 0)
-    : Option CWorld → ℕ → Option CWorld → Type 0 where
+-- a call through a handle that may hold nothing; where it does, no output is touched
+pub data ByHandle {X : Type 0} (Untouched : Type 0) (Does : X → ℕ → X → Type 0)
+    : Option X → ℕ → Option X → Type 0 where
   closed : Untouched → ByHandle Untouched Does None 1 None
-  does : (w v : CWorld) (status : ℕ) → Does w status v
+  does : (w v : X) (status : ℕ) → Does w status v
       → ByHandle Untouched Does (Some w) status (Some v)
 
 -- a call for worlds of one kind, with tints or without: no other world is touched, nor an output
@@ -432,7 +432,7 @@ pub data OpensHandle (coloured : Bool) (side cap keep : ℕ) (bytes : List ℕ)
   begun : (w : CWorld) → IsBegun coloured side cap keep bytes w
       → OpensHandle coloured side cap keep bytes None 0 (Some w)
 
--- a world is closed, where one is held
-pub data ClosesHandle : Option CWorld → ℕ → Option CWorld → Type 0 where
+-- what is held is closed, where something is
+pub data ClosesHandle {X : Type 0} : Option X → ℕ → Option X → Type 0 where
   closed : ClosesHandle None 1 None
-  given_back : (w : CWorld) → ClosesHandle (Some w) 0 None
+  given_back : (w : X) → ClosesHandle (Some w) 0 None

@@ -232,7 +232,7 @@ pub(crate) fn put_extent(found: Option<Boxed>, some: &mut bool, least: &mut CBox
     }
 }
 
-fn put_hit(found: Option<Cell>, some: &mut bool, hit: &mut CPlace)
+pub(crate) fn put_hit(found: Option<Cell>, some: &mut bool, hit: &mut CPlace)
     ensures found { hit_of some.new hit.new ≡ found }
     ensures none { some.new ≡ false → hit.new ≡ hit.old }
 {
@@ -245,7 +245,7 @@ fn put_hit(found: Option<Cell>, some: &mut bool, hit: &mut CPlace)
     }
 }
 
-fn is_in(answer: Answer) -> bool
+pub(crate) fn is_in(answer: Answer) -> bool
     ensures { result ≡ is_in answer }
 {
     match answer {
@@ -254,7 +254,7 @@ fn is_in(answer: Answer) -> bool
     }
 }
 
-fn cells_in(answer: Answer) -> u64
+pub(crate) fn cells_in(answer: Answer) -> u64
     ensures { result ≡ cells_in answer }
 {
     match answer {
@@ -263,7 +263,7 @@ fn cells_in(answer: Answer) -> u64
     }
 }
 
-fn faces_in(answer: Answer) -> u64
+pub(crate) fn faces_in(answer: Answer) -> u64
     ensures { result ≡ faces_answered answer }
 {
     match answer {
@@ -272,7 +272,7 @@ fn faces_in(answer: Answer) -> u64
     }
 }
 
-fn extent_in(answer: Answer) -> Option<Boxed>
+pub(crate) fn extent_in(answer: Answer) -> Option<Boxed>
     ensures { result ≡ extent_in answer }
 {
     match answer {
@@ -281,7 +281,7 @@ fn extent_in(answer: Answer) -> Option<Boxed>
     }
 }
 
-fn hit_in(answer: Answer) -> Option<Cell>
+pub(crate) fn hit_in(answer: Answer) -> Option<Cell>
     ensures { result ≡ hit_in answer }
 {
     match answer {

@@ -149,7 +149,7 @@ impl CWorld {
 }
 
 // Whether a region of a box of this size can be asked for from the cell.
-fn is_region(b: Boxed, from: Cell) -> bool
+pub(crate) fn is_region(b: Boxed, from: Cell) -> bool
     ensures { IsTrue result
         ↔ (((b.size.x ≤ 256) × (b.size.y ≤ 256) × (b.size.z ≤ 256)) × IsInBox b from) }
 {

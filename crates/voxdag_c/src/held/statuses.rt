@@ -44,3 +44,5 @@ pub const OTHER_KIND: u32 = 20;
 pub const BAD_TINT: u32 = 21;
 /// The file's scene breaks a rule: what is wrong, and where, was told.
 pub const BAD_SCENE: u32 = 22;
+/// The bytes are no file of versions: the place of the first fault was told.
+pub const BAD_DAG: u32 = 23;
