@@ -1,4 +1,4 @@
-use Rattle.std.proofs.Common.{◌-◌, ◌+◌, ◌/◌, ◌<◌, ℕ, arith}
+use Rattle.std.proofs.Common.{◌-◌, ◌+◌, ◌/◌, ℕ, arith}
 use Rattle.dag_file.specs.Places.{versions_in, version_number}
 use Rattle.dag_file.proofs.VersionLaws.{stands_above, stands_below, versions_rise, other_is_more}
 use Rattle.dag_file.proofs.views.DagView.find.Goals as goal

@@ -1,6 +1,4 @@
-use Rattle.std.proofs.Common.{rules, ◌≡◌, ◌+◌, ◌-◌, ◌≤◌, ℕ, arith, sym, subst, ◌∙◌, ap}
-use Rattle.dag_file.specs.Places.{versions_in}
-use Rattle.dag_file.specs.Trees.{Opened, IsNewest}
+use Rattle.std.proofs.Common.{rules}
 use Rattle.dag_file.proofs.VersionLaws.{newest_told}
 use Rattle.dag_file.proofs.views.DagView.newest.Goals as goal
 

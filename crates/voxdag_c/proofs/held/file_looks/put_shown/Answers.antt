@@ -1,4 +1,3 @@
-use Rattle.std.proofs.Common.{rules}
 use Rattle.voxdag_c.proofs.OfHeld.FileAsks.{shows_none, shows_all}
 use Rattle.voxdag_c.proofs.held.file_looks.put_shown.Goals as goal
 

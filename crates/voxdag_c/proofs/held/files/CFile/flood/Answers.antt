@@ -1,4 +1,4 @@
-use Rattle.std.proofs.Common.{◌≡◌, List, ℕ, refl, sym, subst}
+use Rattle.std.proofs.Common.{List, ℕ, refl, sym, subst}
 use Rattle.vw_cell.specs.declared.cells.Cell.{Cell}
 use Rattle.dag_answers.specs.OfVersions.{TellsRegion}
 use Rattle.voxdag_c.specs.held.Places.{box_of, cell_of_c_place}

@@ -1,4 +1,4 @@
-use Rattle.std.proofs.Common.{◌≡◌, List, ℕ, refl, subst}
+use Rattle.std.proofs.Common.{List, ℕ, refl, subst}
 use Rattle.dag_answers.specs.OfVersions.{TellsFile}
 use Rattle.voxdag_c.specs.held.Calls.{WritesBytes}
 use Rattle.voxdag_c.specs.held.Files.{FileSaves}

@@ -1,4 +1,4 @@
-use Rattle.std.proofs.Common.{◌≡◌, List, ℕ, refl, subst, map}
+use Rattle.std.proofs.Common.{List, refl, subst, map}
 use Rattle.vox_read.specs.declared.voxels.Voxel.{Voxel}
 use Rattle.dag_answers.specs.OfVersions.{TellsSurface}
 use Rattle.voxdag_c.specs.held.Places.{shown_by}
