@@ -56,35 +56,21 @@ const THIRD: Name = Name {
 
 /// Versions of `SIXTEEN`, and what their roots have in octants: version 0 the first node in octant
 /// 0 and in octant 2 the second one, which has both leaves; version 2 the third node in octant 0.
-const OCTANTS: &[(u32, Octants)] = &[
-    (
-        0,
-        Octants {
-            names: [
-                Some(FIRST),
-                None,
-                Some(SECOND),
-                None,
-                None,
-                None,
-                None,
-                None,
-            ],
-            bits: [1, 0, 0, 0, 0, 0, 0, 2],
-        },
-    ),
-    (
-        2,
-        Octants {
-            names: [Some(THIRD), None, None, None, None, None, None, None],
-            bits: [0; 8],
-        },
-    ),
-];
+fn octants() -> [(u32, Octants); 2] {
+    let mut names = [None; 8];
+    names[0] = Some(FIRST);
+    names[2] = Some(SECOND);
+    let bits = [1, 0, 0, 0, 0, 0, 0, 2];
+    let first = Octants { names, bits };
+    let mut names = [None; 8];
+    names[0] = Some(THIRD);
+    let bits = [0; 8];
+    [(0, first), (2, Octants { names, bits })]
+}
 
 #[test]
 fn octants_are_told_by_one_look(rt: HostRuntime) {
-    for &(version, octants) in OCTANTS {
+    for (version, octants) in octants() {
         assert_eq!(rt;
             octants_of(rt.alloc(), SIXTEEN, version),
             Some(octants),
