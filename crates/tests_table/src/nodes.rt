@@ -48,11 +48,29 @@ fn back_first<R: Wait, L: Ledger>(
     }
 }
 
-/// What a node tells of its octants.
+/// What a node tells of its octants: of all at once, and of the first two one by one; and the bits
+/// of the leaf in the first one, asked of it alone.
 #[derive(Clone, Copy, Debug, PartialEq, Eq)]
 struct Octants {
     names: [Option<Name>; 8],
     bits: [u64; 8],
+    first: Option<Name>,
+    second: Option<Name>,
+    leaf: u64,
+}
+
+// The bits of the leaf in the first octant, 0 where that is clear.
+fn first_bits(table: &NodeTable, pass: &mut Pass, n: Name) -> u64
+    requires of { BelongsTo table.now pass.old }
+    requires held { HoldsName pass.old.view.held n }
+    requires level { n.level ≡ 1 }
+    ensures { pass.new ≡ pass.old }
+{
+    pass.tell();
+    match table.child_at(pass, n, 0) {
+        Some(leaf) => table.bits_at(pass, leaf),
+        None => 0,
+    }
 }
 
 fn octants_told(table: &NodeTable, pass: &mut Pass, n: Name) -> Octants
@@ -63,7 +81,16 @@ fn octants_told(table: &NodeTable, pass: &mut Pass, n: Name) -> Octants
 {
     let names = table.children_at(pass, n);
     let bits = table.leaves_at(pass, n);
-    Octants { names, bits }
+    let first = table.child_at(pass, n, 0);
+    let second = table.child_at(pass, n, 1);
+    let leaf = first_bits(table, pass, n);
+    Octants {
+        names,
+        bits,
+        first,
+        second,
+        leaf,
+    }
 }
 
 // What the node tells before it goes back.
@@ -199,6 +226,9 @@ const LEAF: Name = Name {
 const TOLD: Octants = Octants {
     names: [Some(LEAF), None, None, None, None, None, None, None],
     bits: [5, 0, 0, 0, 0, 0, 0, 0],
+    first: Some(LEAF),
+    second: None,
+    leaf: 5,
 };
 
 #[test]

@@ -7,7 +7,7 @@ ghost use Rattle.node_table.specs.Closing.{IsSpare};
 use crate::calls::{Kept, Went, edit_uniform, fallen_back, forget_at};
 use crate::uniform::{begun, ended, root_back};
 use history_model::{Act, Mark};
-use node_table::{NodeTable, Pass};
+use node_table::{NodeTable, Pass, log_length};
 use node_words::{Name, Plan, Steps};
 use std::marker::Brand;
 use std::sync::Wait;
@@ -44,15 +44,26 @@ fn look_by_turn<R: Wait>(rt: &R, table: &NodeTable, pass: &mut Pass, v: u32) -> 
     (at, Shown::Kept(root))
 }
 
-// The session whose pass the turn lends.
-fn session_by_turn<R: Wait>(rt: &R, table: &NodeTable, pass: &mut Pass) -> u16
+// What the pass tells that the turn lends: its session, how many shares it holds, and how long the
+// log is.
+#[derive(Clone, Copy, Debug, PartialEq, Eq)]
+struct Lent {
+    session: u16,
+    held: u32,
+    len: u32,
+}
+
+fn lent_by_turn<R: Wait>(rt: &R, table: &NodeTable, pass: &mut Pass) -> Lent
     requires { IsSpare table.now pass.old }
     ensures { IsSpare table.now pass.new }
 {
     let mut turn = sure(rt, table, pass);
-    let session = turn.pass().number();
+    let lent = turn.pass();
+    let session = lent.number();
+    let held = lent.held();
+    let len = log_length(table, lent);
     turn.leave();
-    session
+    Lent { session, held, len }
 }
 
 // An undo or a redo by the turn: the record and the version that it goes to.
@@ -126,10 +137,17 @@ const WENT: [Went; 4] = [
     Went::Nowhere,
 ];
 
-// What the turn tells, look by look and act by act, and whose pass it lends.
+// What is told of the pass that is lent behind two records.
+const LENT: Lent = Lent {
+    session: 0,
+    held: 0,
+    len: 2,
+};
+
+// What the turn tells, look by look and act by act, and what the pass tells that it lends.
 #[derive(Clone, Copy, Debug, PartialEq, Eq)]
 struct Told {
-    session: u16,
+    lent: Lent,
     looks: [(u32, Shown); 7],
     went: [Went; 4],
 }
@@ -145,7 +163,7 @@ fn told_by_turn<R: Wait, L: Ledger>(rt: &R, table: &NodeTable, a: &mut Pass, bla
     let mut steps: Steps<L> = Steps::start(blank);
     let _full = edit_uniform(rt, table, a, 1, true, &mut steps);
     let _blank = edit_uniform(rt, table, a, 2, false, &mut steps);
-    let session = session_by_turn(rt, table, a);
+    let lent = lent_by_turn(rt, table, a);
     let zero = look_by_turn(rt, table, a, 0);
     let one = look_by_turn(rt, table, a, 1);
     let two = look_by_turn(rt, table, a, 2);
@@ -159,7 +177,7 @@ fn told_by_turn<R: Wait, L: Ledger>(rt: &R, table: &NodeTable, a: &mut Pass, bla
     let last = look_by_turn(rt, table, a, 4);
     let nowhere = go_by_turn(rt, table, a, 7, &Act::Redo, &mut steps);
     Told {
-        session,
+        lent,
         looks: [zero, one, two, three, marked, behind, last],
         went: [undone, refused, redone, nowhere],
     }
@@ -189,7 +207,7 @@ fn a_turn_tells_of_versions_and_goes_back_and_on(rt: HostRuntime) -> Result<(), 
     let plan = Plan::even(side, 1, 2).ok_or("a plan")?;
     let (table, passes) = begun(rt.alloc(), &plan, 1)?;
     let told = told_last(&rt, &table, passes).ok_or("a pass")?;
-    assert_eq!(rt; told.session, 0);
+    assert_eq!(rt; told.lent, LENT);
     for k in 0..7 {
         assert_eq!(rt; told.looks[k], LOOKS[k], "look {k}");
     }
