@@ -218,7 +218,7 @@ async def after_two_megabytes(session: aiohttp.ClientSession, server: Editor) ->
             await socket.send_str("x" * (2 << 20))
             while (await asyncio.wait_for(socket.receive(), patience())).type == aiohttp.WSMsgType.TEXT:
                 pass
-        except ConnectionError:
+        except (ConnectionError, aiohttp.ClientConnectionError):
             return 1006
         return socket.close_code
 
