@@ -40,7 +40,8 @@ with_pushed since keep records forgot =
 
 -- some scripts were run, and of the next one these lines; acts are tinted exactly where the history
 -- is coloured. Behind the first `since` records the last `keep` versions alone are held, with 0 all
-pub record IsSoFar (since keep : ℕ) (p : Layout) (models : List Content) (scripts : List (List ScriptLine))
+pub record IsSoFar (since keep : ℕ) (p : Layout) (models : List Content)
+    (scripts : List (List ScriptLine))
     (transcripts : List (List LineAnswer)) (script : List ScriptLine)
     (transcript : List LineAnswer) (log : Log) : Type 0 where
   pub legal : IsLegal (2 ^ p.side) models log

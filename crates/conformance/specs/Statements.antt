@@ -59,7 +59,8 @@ RunsGoOnByScripts = (since keep : ℕ) (p : Layout) (models : List Content)
     (scripts : List (List ScriptLine)) (transcripts : List (List LineAnswer))
     (script : List ScriptLine) (transcript : List LineAnswer) (log : Log)
     → IsSoFar since keep p models scripts transcripts script transcript log
-    → IsSoFar since keep p models (scripts ++ script ∷ []) (transcripts ++ transcript ∷ []) [] [] log
+    → IsSoFar since keep p models (scripts ++ script ∷ [])
+        (transcripts ++ transcript ∷ []) [] [] log
 
 abbrev pub RunsAgree : Type 0
 RunsAgree = (keep : ℕ) (p : Layout) (models : List Content) (scripts : List (List ScriptLine))
@@ -99,7 +100,8 @@ ForgettingsAreSteps = (keep : ℕ) (p : Layout) (models : List Content) (mark : 
     (record { line = mark.line; at = length old.records; answer = answers.Forgot mark.version })
 
 abbrev pub RestingAnswersAreSteps : Type 0
-RestingAnswersAreSteps = (keep : ℕ) (p : Layout) (models : List Content) (session : ℕ) (l : ScriptLine)
+RestingAnswersAreSteps =
+    (keep : ℕ) (p : Layout) (models : List Content) (session : ℕ) (l : ScriptLine)
     (log : Log) (answer : Answer)
     → IsLegal (2 ^ p.side) models log → is_resting answer ≡ true
     → Answers p models log

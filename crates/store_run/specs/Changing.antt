@@ -53,8 +53,8 @@ pub data Changes (log : Log) (r : Record) : Answer → Log → Type 0 where
       → Changes log r (nothing_to_go_to r.act) new
 
 -- an act is answered where the last `keep` versions alone are held, with 0 all: where it becomes a
--- record, the version that this pushes out gets its mark, by the record's session and line, where it
--- has none
+-- record, the version that this pushes out gets its mark, by the record's session and line, where
+-- it has none
 pub record ChangesKeeping (keep : ℕ) (p : Layout) (models : List Content) (log : Log) (r : Record)
     (answer : Answer) (new : Log) : Type 0 where
   pub before : Log

@@ -12,7 +12,8 @@ use Rattle.conformance.specs.scripts.Keeping.{MadeAndMet, KeepsMade, LineMakes, 
 
 -- some scripts were run, and of the next one these lines: their history, and what the store noted
 pub record IsRunning (since keep : ℕ) (p : Layout) (models : List Content)
-    (scripts : List (List ScriptLine)) (transcripts : List (List LineAnswer)) (script : List ScriptLine)
+    (scripts : List (List ScriptLine)) (transcripts : List (List LineAnswer))
+    (script : List ScriptLine)
     (transcript : List LineAnswer) (log : Log) (noted : MadeAndMet) : Type 0 where
   pub so_far : IsSoFar since keep p models scripts transcripts script transcript log
   pub keeps : KeepsMade p models log.records

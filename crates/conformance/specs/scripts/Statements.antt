@@ -54,29 +54,34 @@ ForgettingsTakeLines = (keep : ℕ) (p : Layout) (models : List Content) (first 
 
 -- an edit of the newest version met a full bucket
 abbrev pub FullBucketsTakeLines : Type 0
-FullBucketsTakeLines = (keep : ℕ) (p : Layout) (models : List Content) (session first line : ℕ) (act : Act)
+FullBucketsTakeLines =
+    (keep : ℕ) (p : Layout) (models : List Content) (session first line : ℕ) (act : Act)
     (once : Bool) (level bucket : ℕ) (log : Log) (old new : StoreState)
     → IsLegal (2 ^ p.side) models log → old.plan ≡ p → first ≤ length log.records
     → MeetsFull (IsWanted p models log.records act (length log.records)) level bucket old new
-    → TakesLine keep p models session first (record { line = line; command = Edit act once }) log log
+    → TakesLine keep p models session first
+        (record { line = line; command = Edit act once }) log log
     (made_and_met old) (made_and_met new)
     (record { line = line; at = length log.records; answer = answers.Full level bucket })
 
 -- an edit of the newest version was rebuilt in the store, and the history has all records that one
 -- can have
 abbrev pub LateEditsTakeLines : Type 0
-LateEditsTakeLines = (keep : ℕ) (p : Layout) (models : List Content) (session first line : ℕ) (act : Act)
+LateEditsTakeLines =
+    (keep : ℕ) (p : Layout) (models : List Content) (session first line : ℕ) (act : Act)
     (once : Bool) (log : Log) (made now : MadeAndMet)
     → IsLegal (2 ^ p.side) models log → length log.records ≡ 65535
     → is_edit act ≡ true → first ≤ length log.records
     → Grew (IsWanted p models log.records act (length log.records)) made.made now.made
     → now.met ≡ made.met
-    → TakesLine keep p models session first (record { line = line; command = Edit act once }) log log
+    → TakesLine keep p models session first
+        (record { line = line; command = Edit act once }) log log
     made now (record { line = line; at = length log.records; answer = answers.LogFull })
 
 -- the line was answered at the newest moment, and nothing changed
 abbrev pub RestingAnswersTakeLines : Type 0
-RestingAnswersTakeLines = (keep : ℕ) (p : Layout) (models : List Content) (session first : ℕ) (l : ScriptLine)
+RestingAnswersTakeLines =
+    (keep : ℕ) (p : Layout) (models : List Content) (session first : ℕ) (l : ScriptLine)
     (log : Log) (answer : Answer) (noted : MadeAndMet)
     → IsLegal (2 ^ p.side) models log → is_resting answer ≡ true
     → refused_by l.command (length log.records) answer ≡ []

@@ -27,7 +27,7 @@ pub data TellsNewest (f : CFile) (old new : ℕ) : ℕ → Type 0 where
   told : IsNewest f.file.bytes (f.file.side - 1) new → TellsNewest f old new 0
   no_version : versions_in f.file.bytes ≡ 0 → new ≡ old → TellsNewest f old new 4
 
--- a question of a version of a file: the answer that tells what is asked was written, or nothing was
+-- asking a version of a file: the answer that tells what is asked was written, or nothing was
 pub data FileAsks (f : CFile) (version : ℕ) (question : Question) (Written : Answer → Type 0)
     (Untouched : Type 0) : ℕ → Type 0 where
   told : (answer : Answer) → QuestionFits (2 ^ f.file.side) question
