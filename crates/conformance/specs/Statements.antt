@@ -60,7 +60,7 @@ RunsGoOnByScripts = (since keep : ℕ) (p : Layout) (models : List Content)
     (script : List ScriptLine) (transcript : List LineAnswer) (log : Log)
     → IsSoFar since keep p models scripts transcripts script transcript log
     → IsSoFar since keep p models (scripts ++ script ∷ [])
-        (transcripts ++ transcript ∷ []) [] [] log
+    (transcripts ++ transcript ∷ []) [] [] log
 
 abbrev pub RunsAgree : Type 0
 RunsAgree = (keep : ℕ) (p : Layout) (models : List Content) (scripts : List (List ScriptLine))

@@ -60,7 +60,7 @@ FullBucketsTakeLines =
     → IsLegal (2 ^ p.side) models log → old.plan ≡ p → first ≤ length log.records
     → MeetsFull (IsWanted p models log.records act (length log.records)) level bucket old new
     → TakesLine keep p models session first
-        (record { line = line; command = Edit act once }) log log
+    (record { line = line; command = Edit act once }) log log
     (made_and_met old) (made_and_met new)
     (record { line = line; at = length log.records; answer = answers.Full level bucket })
 
@@ -75,7 +75,7 @@ LateEditsTakeLines =
     → Grew (IsWanted p models log.records act (length log.records)) made.made now.made
     → now.met ≡ made.met
     → TakesLine keep p models session first
-        (record { line = line; command = Edit act once }) log log
+    (record { line = line; command = Edit act once }) log log
     made now (record { line = line; at = length log.records; answer = answers.LogFull })
 
 -- the line was answered at the newest moment, and nothing changed
