@@ -20,7 +20,7 @@ use Rattle.edit_walk.proofs.OfBlocks.JoinLaws.{grows_on, nones, refuses_after}
 use Rattle.edit_walk.proofs.OfBlocks.ReachLaws.{keeps_reaches, came_keeps, tree_reached}
 use Rattle.edit_walk.specs.declared.memos.MemoEntry.{MemoEntry}
 use Rattle.edit_walk.specs.Memos.{MemoSet, IsInMemo, IsMade, Recalls, RecallsHeld}
-use Rattle.edit_walk.specs.Walks.{Walk, walk_at, Starts, Begins, BlockFound, Built, Found, FoundTurns, Partway, TookTurns}
+use Rattle.edit_walk.specs.Walks.{Walk, walk_at, Starts, Begins, BlockFound, Built, Found, FoundTo, FoundTurns, Partway, TookTurns}
 use Rattle.edit_walk.specs.declared.outcomes.WalkedBlock.{WalkedBlock}
 use Rattle.edit_walk.specs.declared.outcomes.WalkedBlock.TheVariants.{Stands, Made}
 use Rattle.edit_walk.specs.Outcomes.{Comes, FoundBeside, IsLaid, IsStanding, LeafFound, NodeFound, TakenTurns, WithinTurns, name_of_block}
@@ -123,20 +123,18 @@ found_kept T makes base rest level task cells kept block seen full old new keeps
         (subst (λ (k : MemoEntry T). IsMade makes base b.came.now level k) (sym q) itself)
     cases l e (inr k) = b.recalls.each l e k
 
--- a block that is remembered stands
-pub hit_found : {T : Type 0} (makes : T → Making) (base rest : List Tree) (level : ℕ)
-    (cells : Cells) (e : MemoEntry T) (walk : Walk T) → Aside walk.seen.held walk.full rest
-    → Recalls makes base rest walk.memo → (d : IsMade makes base rest level e)
-    → SameIn level cells d.cells
-    → Found makes base rest level (shape_with level cells) (Stands e.name) walk
-hit_found makes base rest level cells e walk a r d same = record {
-  came = found_standing rest walk.seen.held walk.full level (shape_with level cells) e.name a
-      (record {
-        tree = d.tree;
-        of = d.of;
-        shape = d.shape ∙ sym (shape_with-same level cells d.cells same);
-      });
-  recalls = r;
+-- a block that stands
+pub told_found : {T : Type 0} (makes : T → Making) (base rest : List Tree) (level : ℕ) (task : T)
+    (cells : Cells) (name : Option Name) (walk : Walk T) → Begins makes base rest level task cells walk
+    → IsStanding rest level (shape_with level cells) name
+    → FoundTo makes base rest level (shape_with level cells) (Stands name) walk walk
+told_found makes base rest level task cells name walk b s = record {
+  found = record {
+    came = found_standing rest walk.seen.held walk.full level (shape_with level cells) name
+        b.starts.aside s;
+    recalls = b.recalls;
+  };
+  grows = grows_none _ _;
 }
 
 -- a block that was found while the memo stayed

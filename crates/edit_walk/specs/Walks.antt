@@ -8,14 +8,15 @@ use Rattle.node_words.specs.declared.shares.Full.{Full}
 use Rattle.node_words.specs.Held.{StoreState}
 use Rattle.node_words.specs.Gathering.{Grows}
 use Rattle.node_words.proofs.HeldLaws.{Keeps}
-use Rattle.node_words.specs.contents.CellShapes.{Cells, shape_with}
-use Rattle.edit_walk.specs.declared.cells.tasks.Whole.{Whole}
-use Rattle.edit_walk.specs.cells.Tasks.{Making, IsWhole}
+use Rattle.node_words.specs.contents.CellShapes.{Cells, SameIn, all_cells, shape_with}
+use Rattle.edit_walk.specs.cells.Tasks.{Making}
 use Rattle.edit_walk.specs.cells.Worlds.{world_cells}
 use Rattle.edit_walk.specs.blocks.Blocks.{Aside, GainedShare, StopsAside, height}
 use Rattle.edit_walk.specs.declared.outcomes.WalkedBlock.{WalkedBlock}
 use Rattle.edit_walk.specs.declared.outcomes.WalkedBlock.TheVariants.{Stands, Made}
-use Rattle.edit_walk.specs.Outcomes.{FoundBeside, FindsOctants}
+use Rattle.edit_walk.specs.declared.outcomes.Told.{Told}
+use Rattle.edit_walk.specs.declared.outcomes.Told.TheVariants.{Standing, Filled, New}
+use Rattle.edit_walk.specs.Outcomes.{FoundBeside, FindsOctants, IsStanding}
 use Rattle.edit_walk.specs.Memos.{MemoSet, Recalls}
 
 -- the state of a walk: what the store is seen as, the full block kept aside, and what is remembered
@@ -116,17 +117,17 @@ FindsBlock makes level task old result new =
     ForBuilding makes level task old
     (λ base rest cells. BlockFound makes base rest level (shape_with level cells) result old new)
 
--- a block that is known as a whole was found
-pub record WholeFoundTo (rest : List Tree) (level : ℕ) (target : Shape) (block : WalkedBlock)
-    (old new : StoreState) (after : Option Name) : Type 0 where
-  pub found : FoundBeside rest level target block new.held after
-  pub grows : Grows target old new
+-- what is told of the block before the store is asked: it stands below whatever holds the trees
+-- that the task makes it by and all that is remembered, or every cell of it is set
+abbrev pub IsTold : List Tree → ℕ → Cells → Told → Type 0
+IsTold rest level cells (Standing name) = IsStanding rest level (shape_with level cells) name
+IsTold rest level cells Filled = SameIn level cells all_cells
+IsTold rest level cells New = Unit {0}
 
-abbrev pub WholeFound : List Tree → ℕ → Shape → Result WalkedBlock Full → StoreState → StoreState
-    → Option Name → Type 0
-WholeFound rest level target (Ok block) old new after =
-    WholeFoundTo rest level target block old new after
-WholeFound rest level target (Err full) old new after = StopsAside rest target full old new after
+abbrev pub TellsBlock : {T : Type 0} → (T → Making) → ℕ → T → MemoSet T → Told → Type 0
+TellsBlock makes level task memo told =
+    (base rest : List Tree) (cells : Cells) → Keeps base rest → makes task base level cells
+    → Recalls makes base rest memo → IsTold rest level cells told
 
 -- its octants were found
 pub record GatheredAll {T : Type 0} (makes : T → Making) (base rest : List Tree) (level : ℕ)
@@ -163,19 +164,6 @@ FoundTurns top mixed (Ok (Stands name)) before after old new =
 FoundTurns top mixed (Ok (Made name)) before after old new =
     TookTurns 1 top mixed before after old new
 FoundTurns top mixed (Err full) before after old new = Unit {0}
-
--- the block is known as a whole
-abbrev pub CanBeWhole : ℕ → Whole → StoreState → Option Name → Type 0
-CanBeWhole level whole seen full =
-    (base : List Tree) × (rest : List Tree) × (cells : Cells) × Starts base rest seen full
-    × IsWhole base level cells whole
-
--- P of each such block: of the rest, and of the block's shape
-abbrev pub ForWhole : ℕ → Whole → StoreState → Option Name → (List Tree → Shape → Type 0) → Type 0
-ForWhole level whole seen full P =
-    (base rest : List Tree) (cells : Cells) → Starts base rest seen full
-    → IsWhole base level cells whole
-    → P rest (shape_with level cells)
 
 -- the task makes some world of this side, a power of two, and P of each that it makes
 abbrev pub MakesWorld : Making → List Tree → ℕ → Type 0

@@ -11,6 +11,17 @@ use node_words::{
 };
 use std::sync::ledger::Ledger;
 
+/// What is told of a block before the store is asked.
+#[derive(Clone, Copy)]
+pub(crate) enum Told {
+    /// It stands below what is held, by this name, or nothing of it is set.
+    Standing(Option<Name>),
+    /// Every cell of it is set.
+    Filled,
+    /// Its octants tell, or its bits, and none like it is remembered.
+    New,
+}
+
 /// What a walk finds a block to be.
 pub(crate) enum WalkedBlock {
     /// It stands below what is held, by this name, or nothing of it is set: no share was taken.

@@ -3,17 +3,17 @@ ghost use Rattle.vw_cell.specs.Sums.{sum_below};
 ghost use Rattle.node_words.specs.shapes.Weights.{number_of_trees};
 ghost use Rattle.node_words.specs.Held.{name_in};
 ghost use Rattle.node_words.specs.contents.CellShapes.{shape_with};
-ghost use Rattle.edit_walk.specs.cells.Tasks.{MakesCells, ForCells};
+ghost use Rattle.edit_walk.specs.cells.Tasks.{MakesSome, MakesCells, ForCells};
 ghost use Rattle.edit_walk.specs.Edits.{MakesBlock};
 ghost use Rattle.edit_walk.specs.declared.memos.MemoEntry.{MemoEntry};
 ghost use Rattle.edit_walk.specs.Memos.{RecallsHeld};
-ghost use Rattle.edit_walk.specs.Walks.{walk_at, CanBuild, TookTurns, FoundTurns, WalksBlock, FindsBlock, WholeFound, WalksOctants, CanBeWhole, ForWhole};
+ghost use Rattle.edit_walk.specs.Walks.{walk_at, CanBuild, TookTurns, FoundTurns, WalksBlock, FindsBlock, TellsBlock, WalksOctants};
 
 use crate::blocks::{back_all, back_if, full_block};
 use crate::cells::{Task, Whole};
 use crate::memos::{Memo, MemoEntry};
 use crate::octants::Octants;
-use crate::outcomes::{WalkedBlock, lay, leaf_or_old, node_or_old, taken_up};
+use crate::outcomes::{Told, WalkedBlock, lay, leaf_or_old, node_or_old, taken_up};
 use node_words::{Full, Name, NodeStore, Share, Steps, end_all};
 use std::sync::ledger::Ledger;
 
@@ -38,20 +38,42 @@ fn share_of<T: Task, M: Memo<T>, N: NodeStore, L: Ledger>(
     ensures took { OnOk result (TookTurns 1 (level + 1) (T.mixed level task.now) full.old full.new
         steps.old steps.new) }
 {
-    match build(store, level, task, full, memo, steps) {
+    let told = told_of(level, task, memo);
+    match build(store, level, task, told, full, memo, steps) {
         Ok(block) => Ok(taken_up(store, block, steps)),
         Err(e) => Err(e),
     }
 }
 
-// The block that the task makes, or the full bucket that was met. A block that is known as a whole
-// costs no call: the walk calls itself in `fresh` alone.
+// What is told of the block that the task makes before the store is asked. It waits for nothing, so
+// that a block that stands costs no call of what may.
+#[inline(always)]
+fn told_of<T: Task, M: Memo<T>>(level: u8, task: &T, memo: &M) -> Told
+    requires task { MakesSome (T.makes task.now) level }
+    ensures told { TellsBlock T.makes level task.now (M.has memo.now) result }
+    ensures mixed { result ≡ Told.New → 1 ≤ level
+        → 1 + sum_below 8 (T.mixed_in level task.now) ≤ T.mixed level task.now }
+{
+    match task.whole(level) {
+        Whole::Nothing => Told::Standing(None),
+        Whole::Old(n) => Told::Standing(Some(n)),
+        Whole::All => Told::Filled,
+        Whole::Mixed => match memo.find(level, task) {
+            Some(kept) => Told::Standing(kept.name),
+            None => Told::New,
+        },
+    }
+}
+
+// The block that the task makes, of which this is told, or the full bucket that was met. The walk
+// calls itself in `fresh` alone.
 #[inline(always)]
 #[cycle(walk)]
 fn build<T: Task, M: Memo<T>, N: NodeStore, L: Ledger>(
     store: &mut N,
     level: u8,
     task: &T,
+    told: Told,
     full: &mut Option<Share>,
     memo: &mut M,
     steps: &mut Steps<L>,
@@ -59,7 +81,10 @@ fn build<T: Task, M: Memo<T>, N: NodeStore, L: Ledger>(
     requires level { (level ≤ 10) × (level + 2 ≤ (N.seen store.old).plan.side) }
     requires task { CanBuild T.makes level task.now
         (walk_at (N.seen store.old) full.old (M.has memo.old)) }
+    requires told { TellsBlock T.makes level task.now (M.has memo.old) told }
     requires room { number_of_trees (N.seen store.old).held + 9 * level ≤ 4000 }
+    requires mixed { told ≡ Told.New → 1 ≤ level
+        → 1 + sum_below 8 (T.mixed_in level task.now) ≤ T.mixed level task.now }
     ensures walked { FindsBlock T.makes level task.now
         (walk_at (N.seen store.old) full.old (M.has memo.old)) result
         (walk_at (N.seen store.new) full.new (M.has memo.new)) }
@@ -67,16 +92,13 @@ fn build<T: Task, M: Memo<T>, N: NodeStore, L: Ledger>(
     ensures took { FoundTurns (level + 1) (T.mixed level task.now) result full.old full.new
         steps.old steps.new }
 {
-    let whole = task.whole(level);
-    if !whole.is_mixed() {
-        return match known(store, level, whole, full, steps) {
-            Ok(block) => Ok(block),
+    match told {
+        Told::Standing(name) => Ok(WalkedBlock::Stands(name)),
+        Told::Filled => match full_block(store, level, full, steps) {
+            Ok(share) => Ok(WalkedBlock::Made(share)),
             Err(e) => Err(e),
-        };
-    }
-    match memo.find(level, task) {
-        Some(kept) => Ok(WalkedBlock::Stands(kept.name)),
-        None => fresh(store, level, task, full, memo, steps),
+        },
+        Told::New => fresh(store, level, task, full, memo, steps),
     }
 }
 
@@ -166,35 +188,6 @@ fn made<T: Task, M: Memo<T>, N: NodeStore, L: Ledger>(
     }
 }
 
-// A block that is known as a whole.
-#[inline(always)]
-fn known<N: NodeStore, L: Ledger>(
-    store: &mut N,
-    level: u8,
-    whole: Whole,
-    full: &mut Option<Share>,
-    steps: &mut Steps<L>,
-) -> Result<WalkedBlock, Full>
-    requires level { level + 2 ≤ (N.seen store.old).plan.side }
-    requires known { CanBeWhole level whole (N.seen store.old) full.old }
-    requires whole { whole ≢ Whole.Mixed }
-    requires room { number_of_trees (N.seen store.old).held ≤ 4000 }
-    ensures came { ForWhole level whole (N.seen store.old) full.old
-        (λ rest target. WholeFound rest level target result (N.seen store.old) (N.seen store.new)
-        full.new) }
-    ensures rests { N.rests store.old store.new }
-    ensures took { FoundTurns (level + 1) 0 result full.old full.new steps.old steps.new }
-{
-    match whole {
-        Whole::Nothing | Whole::Mixed => Ok(WalkedBlock::Stands(None)),
-        Whole::Old(n) => Ok(WalkedBlock::Stands(Some(n))),
-        Whole::All => match full_block(store, level, full, steps) {
-            Ok(share) => Ok(WalkedBlock::Made(share)),
-            Err(e) => Err(e),
-        },
-    }
-}
-
 // Fills in what the octants are of the block that the task makes: shares that came, and names of
 // those that stand.
 #[cycle(walk)]
@@ -226,13 +219,19 @@ fn gather<T: Task, M: Memo<T>, N: NodeStore, L: Ledger>(
     let octants = Octants::of(store, level, *task);
     for k in 0..8usize {
         let part = octants.at(k);
-        match build(store, level - 1, part, full, memo, steps) {
-            Ok(block) => lay(children, standing, k, block),
-            Err(e) => {
-                back_all(store, taken(children), steps);
-                return Err(e);
+        let told = told_of(level - 1, part, memo);
+        let block = if let Told::Standing(name) = told {
+            WalkedBlock::Stands(name)
+        } else {
+            match build(store, level - 1, part, told, full, memo, steps) {
+                Ok(block) => block,
+                Err(e) => {
+                    back_all(store, taken(children), steps);
+                    return Err(e);
+                }
             }
-        }
+        };
+        lay(children, standing, k, block);
     }
     Ok(())
 }

@@ -7,37 +7,64 @@ use Rattle.node_words.specs.Gathering.{Grows}
 use Rattle.node_words.specs.descent.Roots.{HasBlock}
 use Rattle.node_words.proofs.HeldLaws.{keeps_itself}
 use Rattle.node_words.proofs.GatherLaws.{grows_none}
-use Rattle.node_words.specs.contents.CellShapes.{shape_with}
+use Rattle.node_words.specs.contents.CellShapes.{Cells, octant_cells, shape_with}
 use Rattle.node_words.proofs.OfContents.CellShapeLaws.{shape_with-canonical}
 use Rattle.edit_walk.specs.cells.Paints.{IsOld}
-use Rattle.edit_walk.specs.Walks.{walk_at, Partway}
+use Rattle.node_words.specs.shapes.Shape.{Shape, octant_shape}
+use Rattle.node_words.specs.shapes.Tree.{Tree}
+use Rattle.node_words.proofs.OfContents.FullShapes.{shape_with-full}
+use Rattle.edit_walk.specs.blocks.Blocks.{StopsAside}
+use Rattle.edit_walk.specs.declared.outcomes.Told.{Told}
+use Rattle.edit_walk.specs.declared.outcomes.WalkedBlock.TheVariants.{Made, Stands}
+use Rattle.edit_walk.specs.Outcomes.{FoundBeside}
+use Rattle.edit_walk.specs.Walks.{walk_at, Begins, FoundTo, IsTold, Partway, TookTurns}
 use Rattle.edit_walk.proofs.OfBlocks.AsideLaws.{aside_numbers}
 use Rattle.edit_walk.proofs.OfBlocks.JoinLaws.{grows_on, grows_in, refuses_after, refuses_held, refuses_octant}
 use Rattle.edit_walk.proofs.OfCells.PaintLaws.{old_has}
-use Rattle.edit_walk.proofs.OutcomeLaws.{finds_back, finds_empty, finds_held, finds_number, laid_long, met_finds}
+use Rattle.edit_walk.proofs.OutcomeLaws.{finds_back, finds_empty, finds_held, finds_number, found_share, laid_long, met_finds}
 use Rattle.edit_walk.proofs.OctantLaws.{octant_begins, octant_found, octant_mixed, octant_stops}
 use Rattle.edit_walk.proofs.WalkLaws.{starts_held, leaf_target}
-use Rattle.edit_walk.proofs.MemoLaws.{found_kept, found_recalls, found_turns, hit_found, leaf_walked, node_turns, node_walked, part_keeps, partway_none, partway_one}
+use Rattle.edit_walk.proofs.MemoLaws.{found_kept, found_recalls, found_turns, told_found, leaf_walked, node_turns, node_walked, part_keeps, partway_none, partway_one}
+use Rattle.edit_walk.proofs.walks.+walk.Goals.{gather-in-Standing, gather-in_default+in-Ok}
 use Rattle.edit_walk.proofs.walks.+walk.Goals as goal
+
+pub build-returns-in-Standing-clause-walked : goal.build-returns-in-Standing-clause-walked
+build-returns-in-Standing-clause-walked g t c base rest cells b =
+    told_found _ base rest _ _ cells _ _ b
+    (subst (λ (d : Told). IsTold rest c.args.level cells d) c.in-Standing.is
+    (c.requires.told base rest cells b.starts.keeps b.made b.recalls))
 
 pub build-returns-in-Ok-clause-walked : goal.build-returns-in-Ok-clause-walked
 build-returns-in-Ok-clause-walked g t c base rest cells b =
-    let came = c.in-Ok.ensures.came base rest cells b.starts
-    (c.whole-whole.ensures.whole base cells b.made) in
-    record { found = found_recalls _ base rest _ _ _ _ b.recalls came.found; grows = came.grows }
+    let all = subst (λ (d : Told). IsTold rest c.args.level cells d) c.in-Filled.is
+    (c.requires.told base rest cells b.starts.keeps b.made b.recalls) in
+    let e = sym (shape_with-full c.args.level cells all) in
+    record {
+      found = found_recalls _ base rest _ _ _ _ b.recalls
+          (subst (λ (s : Shape). FoundBeside rest c.args.level s (Made c.in-Ok.share)
+          (g.N.Blocks.seen c.full_block.new.store).held c.full_block.new.full) e
+          (found_share rest _ _ _ _ _ (c.in-Ok.ensures.ok rest b.starts.aside)));
+      grows = subst (λ (s : Shape). Grows s (g.N.Blocks.seen c.args.store.now)
+          (g.N.Blocks.seen c.full_block.new.store)) e c.in-Ok.ensures.grows;
+    }
 
 pub build-returns-in-Err-clause-walked : goal.build-returns-in-Err-clause-walked
 build-returns-in-Err-clause-walked g t c base rest cells b =
-    c.in-Err.ensures.came base rest cells b.starts (c.whole-whole.ensures.whole base cells b.made)
+    let all = subst (λ (d : Told). IsTold rest c.args.level cells d) c.in-Filled.is
+    (c.requires.told base rest cells b.starts.keeps b.made b.recalls) in
+    subst (λ (s : Shape). StopsAside rest s c.in-Err.e (g.N.Blocks.seen c.args.store.now)
+    (g.N.Blocks.seen c.full_block.new.store) c.full_block.new.full)
+    (sym (shape_with-full c.args.level cells all))
+    (record { refuses = c.in-Err.ensures.full; aside = c.in-Err.ensures.rest rest b.starts.aside })
 
-pub build-returns-in-Some-clause-walked : goal.build-returns-in-Some-clause-walked
-build-returns-in-Some-clause-walked g t c base rest cells b =
-    let d = b.recalls.each c.args.level c.in-Some.kept c.in-Some.ensures.kept in
-    record {
-      found = hit_found _ base rest c.args.level cells c.in-Some.kept _ b.starts.aside b.recalls d
-          (c.in-Some.ensures.same base c.args.level cells d.cells b.made d.made);
-      grows = grows_none _ _;
-    }
+pub gather-told_of-told-requires : goal.gather-told_of-told-requires
+gather-told_of-told-requires g t c =
+    let (base, rest, cells, b) = c.requires.task in
+    let p = c.loop-k.invariant.partway base rest cells b in
+    let begins = octant_begins g.T.Task.makes base rest _ c.args.level _ _ c.of-octants.result cells
+    _ _ c.loop-k.k _ c.of-octants.ensures.tasks c.at-part.ensures
+    (starts_held base rest _ _ b.starts) (omega arith) p in
+    record { task = (base, _, begins.made) }
 
 pub fresh-returns-in-Ok-clause-walked : goal.fresh-returns-in-Ok-clause-walked
 fresh-returns-in-Ok-clause-walked g t c base rest cells b =
@@ -173,12 +200,18 @@ gather-build-requires g t c κs within =
                 (low, omega (arith, x, c.requires.level.1, one)),
                 (
                   (base, p.finds.now, _, begins),
-                  omega (
-                    arith,
-                    finds_number rest _ _ _ _ _ _ 0 _ p.finds,
-                    (aside_numbers _ rest _ b.starts.aside).least,
-                    c.requires.room,
-                    one,
+                  (
+                    c.told_of-told.ensures.told,
+                    (
+                      omega (
+                        arith,
+                        finds_number rest _ _ _ _ _ _ 0 _ p.finds,
+                        (aside_numbers _ rest _ b.starts.aside).least,
+                        c.requires.room,
+                        one,
+                      ),
+                      c.told_of-told.ensures.mixed,
+                    ),
                   ),
                 ),
               ),
@@ -257,35 +290,62 @@ gather-loop-k-preserved g t c =
     rw add-one (sum_below-suc c.loop-k.k f) in
     let low = octant_mixed g.T.Task.mixed (c.args.level - 1) (f c.loop-k.k) _ _ c.at-part.ensures
     (c.of-octants.ensures.mixed c.loop-k.k lt) in
-    let took = found_turns (c.args.level - 1 + 1)
-    (g.T.Task.mixed (c.args.level - 1) c.at-part.result.now) c.in-Ok.block _ _ _ _
-    c.in-Ok.ensures.took in
+    let took : TookTurns 1 (c.args.level - 1 + 1)
+    (g.T.Task.mixed (c.args.level - 1) c.at-part.result.now) c.loop-k.full c.match-told.full
+    c.loop-k.steps c.match-told.steps =
+    elim c.match-told.branch [
+      | gather-in-Standing w ↦ rw (w.full-is, w.steps-is)
+          (record { turns = omega arith; height_is = omega arith })
+      | gather-in_default+in-Ok w ↦ rw (w.full-is, w.steps-is)
+          (found_turns _ _ w.in-Ok.block _ _ _ _ w.in-Ok.ensures.took)
+    ] in
+    let seen = g.N.Blocks.seen in
+    let has = g.M.Memo.has in
+    let rests : g.N.Blocks.rests c.loop-k.store c.match-told.store =
+    elim c.match-told.branch [
+      | gather-in-Standing w ↦ rw w.store-is (g.met.N.Blocks.rests_itself _)
+      | gather-in_default+in-Ok w ↦ rw w.store-is w.build.ensures.rests
+    ] in
+    let found : (base rest : List Tree) (cells : Cells)
+    → (b : Begins g.T.Task.makes base rest c.args.level c.args.task.now cells
+    (walk_at (seen c.args.store.now) c.args.full.now (has c.args.memo.now)))
+    → FoundTo g.T.Task.makes base
+    (c.loop-k.invariant.partway base rest cells b).finds.now (c.args.level - 1)
+    (octant_shape (shape_with c.args.level cells) c.loop-k.k) c.match-told.block
+    (walk_at (seen c.loop-k.store) c.loop-k.full (has c.loop-k.memo))
+    (walk_at (seen c.match-told.store) c.match-told.full (has c.match-told.memo)) =
+    (λ base rest cells b.
+    let p = c.loop-k.invariant.partway base rest cells b in
+    let begins = octant_begins g.T.Task.makes base rest _ c.args.level _ _ c.of-octants.result cells
+    _ _ c.loop-k.k _ c.of-octants.ensures.tasks c.at-part.ensures
+    (starts_held base rest _ _ b.starts) lt p in
+    octant_found _ base p.finds.now c.args.level c.loop-k.k cells c.match-told.block _ _ one lt
+    (elim c.match-told.branch [
+      | gather-in-Standing w ↦ rw (w.store-is, w.full-is, w.memo-is, w.block-is)
+          (told_found _ base p.finds.now _ _ _ _ _ begins
+          (subst (λ (d : Told). IsTold p.finds.now (c.args.level - 1)
+          (octant_cells (c.args.level - 1) cells c.loop-k.k) d) w.in-Standing.is
+          (c.told_of-told.ensures.told base p.finds.now _ begins.starts.keeps begins.made
+          begins.recalls)))
+      | gather-in_default+in-Ok w ↦ rw (w.store-is, w.full-is, w.memo-is, w.block-is)
+          (w.in-Ok.ensures.walked base p.finds.now _ begins)
+    ])) in
     record {
       turns = omega (arith, e, c.loop-k.invariant.turns, took.turns, low);
       height_is = omega (arith, c.loop-k.invariant.height_is, took.height_is, one);
       partway = λ base rest cells b.
-          let p = c.loop-k.invariant.partway base rest cells b in
-          let begins = octant_begins g.T.Task.makes base rest _ c.args.level _ _ c.of-octants.result cells
-          _ _ c.loop-k.k _ c.of-octants.ensures.tasks c.at-part.ensures
-          (starts_held base rest _ _ b.starts) lt p in
-          partway_one _ base rest _ _ cells _ _ _ _ c.loop-k.k c.in-Ok.block _ _
-          lt c.loop-k.invariant.long c.loop-k.invariant.wide p
-          (octant_found _ base p.finds.now c.args.level c.loop-k.k cells c.in-Ok.block _ _ one lt
-          (c.in-Ok.ensures.walked base p.finds.now _ begins)).found c.lay.ensures;
+          partway_one _ base rest _ _ cells _ _ _ _ c.loop-k.k c.match-told.block _ _
+          lt c.loop-k.invariant.long c.loop-k.invariant.wide
+          (c.loop-k.invariant.partway base rest cells b) (found base rest cells b).found
+          c.lay.ensures;
       grows = λ base rest cells b.
-          let p = c.loop-k.invariant.partway base rest cells b in
-          let begins = octant_begins g.T.Task.makes base rest _ c.args.level _ _ c.of-octants.result cells
-          _ _ c.loop-k.k _ c.of-octants.ensures.tasks c.at-part.ensures
-          (starts_held base rest _ _ b.starts) lt p in
           grows_on _ _ _ _ (c.loop-k.invariant.grows base rest cells b)
-          (grows_in _ c.loop-k.k _ _
-          (octant_found _ base p.finds.now c.args.level c.loop-k.k cells c.in-Ok.block _ _ one lt
-          (c.in-Ok.ensures.walked base p.finds.now _ begins)).grows);
-      long = (laid_long c.in-Ok.block c.loop-k.k _ _ _ _ c.lay.ensures).children
+          (grows_in _ c.loop-k.k _ _ (found base rest cells b).grows);
+      long = (laid_long c.match-told.block c.loop-k.k _ _ _ _ c.lay.ensures).children
           ∙ c.loop-k.invariant.long;
-      wide = (laid_long c.in-Ok.block c.loop-k.k _ _ _ _ c.lay.ensures).standing
+      wide = (laid_long c.match-told.block c.loop-k.k _ _ _ _ c.lay.ensures).standing
           ∙ c.loop-k.invariant.wide;
-      rests = g.met.N.Blocks.rests_on _ _ _ c.loop-k.invariant.rests c.build.ensures.rests;
+      rests = g.met.N.Blocks.rests_on _ _ _ c.loop-k.invariant.rests rests;
     }
 
 pub gather-returns-clause-walked : goal.gather-returns-clause-walked
