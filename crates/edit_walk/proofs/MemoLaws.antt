@@ -11,8 +11,7 @@ use Rattle.node_words.specs.declared.shares.Full.{Full}
 use Rattle.node_words.specs.Gathering.{Grows, IsTreeOf, Loses}
 use Rattle.node_words.proofs.GatherLaws.{grows_none, tree_of-more}
 use Rattle.node_words.proofs.HeldLaws.{Keeps, keeps_itself, held_reached}
-use Rattle.node_words.specs.contents.CellShapes.{Cells, SameIn, leaf_shape, shape_with}
-use Rattle.node_words.proofs.OfContents.CellShapeLaws.{shape_with-same}
+use Rattle.node_words.specs.contents.CellShapes.{Cells, leaf_shape, shape_with}
 use Rattle.edit_walk.specs.cells.Tasks.{Making, Lasts, OneEach}
 use Rattle.edit_walk.specs.blocks.Blocks.{Aside, GainedShare, ReachesAll, Joined}
 use Rattle.edit_walk.proofs.OfBlocks.AsideLaws.{aside_same, meets_refuses}

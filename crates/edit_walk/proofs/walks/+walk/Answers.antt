@@ -15,7 +15,7 @@ use Rattle.node_words.specs.shapes.Tree.{Tree}
 use Rattle.node_words.proofs.OfContents.FullShapes.{shape_with-full}
 use Rattle.edit_walk.specs.blocks.Blocks.{StopsAside}
 use Rattle.edit_walk.specs.declared.outcomes.Told.{Told}
-use Rattle.edit_walk.specs.declared.outcomes.WalkedBlock.TheVariants.{Made, Stands}
+use Rattle.edit_walk.specs.declared.outcomes.WalkedBlock.TheVariants.{Made}
 use Rattle.edit_walk.specs.Outcomes.{FoundBeside}
 use Rattle.edit_walk.specs.Walks.{walk_at, Begins, FoundTo, IsTold, Partway, TookTurns}
 use Rattle.edit_walk.proofs.OfBlocks.AsideLaws.{aside_numbers}
