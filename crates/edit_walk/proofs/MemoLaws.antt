@@ -2,6 +2,7 @@
 use Rattle.std.proofs.Common.{◌≡◌, ℕ, zero, suc, refl, ◌+◌, ◌-◌, ◌<◌, ◌≤◌, ◌⊎◌, Some, None, Option, List, Result, Ok, Err, [], ◌∷◌, set, slice_index_or, length, sym, ◌∙◌, ap, subst, arith, inl, inr, get_or-set_other, get_or-set_same}
 use Rattle.std.proofs.Math.ListN.{replicate}
 use Rattle.std.proofs.lemmas.Bool.{cases_eq}
+use Rattle.edit_walk.specs.declared.blocks.full_blocks.FullBlocks.{FullBlocks}
 use Rattle.node_words.specs.declared.shapes.names.Name.{Name}
 use Rattle.node_words.specs.shapes.Shape.{Shape, octant_shape}
 use Rattle.node_words.specs.shapes.Tree.{Tree, shape_of}
@@ -13,7 +14,7 @@ use Rattle.node_words.proofs.GatherLaws.{grows_none, tree_of-more}
 use Rattle.node_words.proofs.HeldLaws.{Keeps, keeps_itself, held_reached}
 use Rattle.node_words.specs.contents.CellShapes.{Cells, leaf_shape, shape_with}
 use Rattle.edit_walk.specs.cells.Tasks.{Making, Lasts, OneEach}
-use Rattle.edit_walk.specs.blocks.Blocks.{Aside, GainedShare, ReachesAll, Joined}
+use Rattle.edit_walk.specs.blocks.Blocks.{Aside, GainedShare, ReachesAll, Joined, no_full_blocks}
 use Rattle.edit_walk.proofs.OfBlocks.AsideLaws.{aside_same, meets_refuses}
 use Rattle.edit_walk.proofs.OfBlocks.JoinLaws.{grows_on, nones, refuses_after}
 use Rattle.edit_walk.proofs.OfBlocks.ReachLaws.{keeps_reaches, came_keeps, tree_reached}
@@ -92,7 +93,7 @@ found_tree rest now level target (Made name) c =
 -- a block that was found is kept
 pub found_kept : (T : Type 0) (makes : T → Making) (base rest : List Tree) (level : ℕ) (task : T)
     (cells : Cells) (kept : Option Name) (block : WalkedBlock) (seen : StoreState)
-    (full : Option Name) (old new : MemoSet T)
+    (full : FullBlocks) (old new : MemoSet T)
     → ((l : ℕ) (e : MemoEntry T) → new l e
     → ((l ≡ level) × (e ≡ record { level = level; task = task; name = kept })) ⊎ old l e)
     → kept ≡ name_of_block block
@@ -188,7 +189,7 @@ target_found makes base rest level s t block walk e b =
 -- a leaf: the old one, one that came, or a full bucket
 pub leaf_walked : {T : Type 0} (makes : T → Making) (base rest : List Tree) (level bits : ℕ)
     (old : Option Name) (t : Tree) (cells : Cells) (result : Result WalkedBlock Full)
-    (seen mid new : StoreState) (full : Option Name) (memo : MemoSet T)
+    (seen mid new : StoreState) (full : FullBlocks) (memo : MemoSet T)
     → level ≡ 0 → leaf_shape bits ≡ shape_with level cells → mid ≡ seen
     → Starts base rest seen full → Recalls makes base rest memo → IsOld base level t old
     → LeafFound old bits result mid new
@@ -237,7 +238,7 @@ leaf_walked makes base rest level bits old t cells (Err met) seen mid new full m
 -- a block whose octants were found: the old one, one that came, or a full bucket
 pub node_walked : {T : Type 0} (makes : T → Making) (base rest was : List Tree) (level : ℕ)
     (old : Option Name) (t : Tree) (target : Shape) (result : Result WalkedBlock Full)
-    (first seen new : StoreState) (before full : Option Name) (memo other : MemoSet T)
+    (first seen new : StoreState) (before full : FullBlocks) (memo other : MemoSet T)
     → Keeps base rest → Keeps base seen.held → IsOld base level t old
     → Grows target first seen → Recalls makes base was memo
     → NodeFound rest was level old target result seen new full
@@ -313,7 +314,7 @@ recalls_by makes held memo lasts one r = record {
 pub begins_held : {T : Type 0} (makes : T → Making) (base : List Tree) (seen : StoreState) (level : ℕ)
     (task : T) (cells : Cells) (memo : MemoSet T) → Lasts makes → OneEach seen.held
     → Keeps base seen.held → RecallsHeld makes seen.held memo → makes task base level cells
-    → Begins makes seen.held seen.held level task cells (walk_at seen None memo)
+    → Begins makes seen.held seen.held level task cells (walk_at seen no_full_blocks memo)
 begins_held makes base seen level task cells memo lasts one k r m = record {
   starts = starts_none seen.held seen (keeps_itself seen.held);
   made = lasts task base seen.held level cells one k m;
@@ -322,7 +323,7 @@ begins_held makes base seen level task cells memo lasts one k r m = record {
 
 -- what is remembered once the full block that was aside went back
 pub recalls_after : {T : Type 0} (makes : T → Making) (old held new : List Tree)
-    (full name : Option Name) (level : ℕ) (target : Shape) (memo : MemoSet T)
+    (full : FullBlocks) (name : Option Name) (level : ℕ) (target : Shape) (memo : MemoSet T)
     → (c : GainedShare old level target name held full) → Loses held c.aside.tree new
     → Recalls makes old c.now memo → RecallsHeld makes new memo
 recalls_after makes old held new full name level target memo c l r = record {

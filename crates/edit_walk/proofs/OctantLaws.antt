@@ -1,5 +1,6 @@
 -- One octant of a block: what a walk of its task begins with, and what that finds of the block.
 use Rattle.std.proofs.Common.{◌≡◌, ℕ, ◌-◌, ◌<◌, ◌≤◌, List, Option, refl, sym, subst}
+use Rattle.edit_walk.specs.declared.blocks.full_blocks.FullBlocks.{FullBlocks}
 use Rattle.node_words.specs.declared.shapes.names.Name.{Name}
 use Rattle.node_words.specs.declared.shares.Full.{Full}
 use Rattle.node_words.specs.shapes.Shape.{octant_shape}
@@ -45,7 +46,7 @@ octant_found makes base rest level k cells block old new one lt found =
     }
 
 pub octant_stops : (rest : List Tree) (level k : ℕ) (cells : Cells) (full : Full)
-    (old new : StoreState) (after : Option Name) → 1 ≤ level → k < 8
+    (old new : StoreState) (after : FullBlocks) → 1 ≤ level → k < 8
     → StopsAside rest (shape_with (level - 1) (octant_cells (level - 1) cells k)) full old new after
     → StopsAside rest (octant_shape (shape_with level cells) k) full old new after
 octant_stops rest level k cells full old new after one lt stops =

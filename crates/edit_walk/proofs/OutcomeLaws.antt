@@ -3,6 +3,7 @@
 use Rattle.std.proofs.Common.{◌≡◌, ◌≢◌, ℕ, suc, ◌+◌, ◌-◌, ◌<◌, ◌≤◌, Some, None, Option, List, ◌∷◌, set, length, refl, sym, ◌∙◌, ap, subst, arith, inl, inr, get_or-set_other, get_or-set_same}
 use Rattle.std.proofs.lemmas.Bool.{cases_eq}
 use Rattle.std.proofs.lemmas.List.{length-set}
+use Rattle.edit_walk.specs.declared.blocks.full_blocks.FullBlocks.{FullBlocks}
 use Rattle.node_words.specs.declared.shapes.names.Name.{Name}
 use Rattle.node_words.specs.shapes.Shape.{Shape, Clear, Leaf, Branch, octant_shape, branch_of, bits_of, IsCanonical}
 use Rattle.node_words.specs.shapes.Tree.{Tree, Gone, root_of, child_of, shape_of}
@@ -55,13 +56,13 @@ comes_keeps rest now level target (Stands name) c =
     record { weighs = λ f. omega (arith, ap (λ (ts : List Tree). weigh f ts) c.same) }
 comes_keeps rest now level target (Made name) c = record { weighs = λ f. omega (arith, c.weighs f) }
 
-abbrev pub found_standing : (rest held : List Tree) (full : Option Name) (level : ℕ) (target : Shape)
+abbrev pub found_standing : (rest held : List Tree) (full : FullBlocks) (level : ℕ) (target : Shape)
     (name : Option Name) → Aside held full rest → IsStanding rest level target name
     → FoundBeside rest level target (Stands name) held full
 found_standing rest held full level target name a s =
     record { now = rest; comes = record { same = refl; standing = s }; aside = a }
 
-abbrev pub found_share : (rest held : List Tree) (full : Option Name) (level : ℕ) (target : Shape)
+abbrev pub found_share : (rest held : List Tree) (full : FullBlocks) (level : ℕ) (target : Shape)
     (name : Option Name) → GainedShare rest level target name held full
     → FoundBeside rest level target (Made name) held full
 found_share rest held full level target name c =
@@ -75,7 +76,7 @@ comes_number rest now level target (Made name) c =
     omega (arith, c.weighs (λ _. 1), weight_of-one c.tree)
 
 pub found_number : (rest held : List Tree) (level : ℕ) (target : Shape) (block : WalkedBlock)
-    (full : Option Name) → FoundBeside rest level target block held full
+    (full : FullBlocks) → FoundBeside rest level target block held full
     → number_of_trees held ≤ number_of_trees rest + 2
 found_number rest held level target block full c =
     omega (
@@ -85,7 +86,7 @@ found_number rest held level target block full c =
     )
 
 -- a share taken of what stands
-pub taken_standing : (rest held new : List Tree) (full : Option Name) (level : ℕ) (target : Shape)
+pub taken_standing : (rest held new : List Tree) (full : FullBlocks) (level : ℕ) (target : Shape)
     (name share : Option Name) → (a : FoundBeside rest level target (Stands name) held full)
     → (GainedShare a.now level (shape_of a.comes.standing.tree) share new full)
     → Joined rest a.now level target share new full
@@ -105,7 +106,7 @@ taken_standing rest held new full level target name share a g =
 
 -- ---- the octants of a block
 
-abbrev pub finds_none : (rest held : List Tree) (full : Option Name) (level : ℕ) (target : Shape)
+abbrev pub finds_none : (rest held : List Tree) (full : FullBlocks) (level : ℕ) (target : Shape)
     (cs ws : List (Option Name)) → ((k : ℕ) → name_in cs k ≡ None)
     → ((k : ℕ) → name_in ws k ≡ None) → Aside held full rest
     → FindsOctants rest level target cs ws 0 0 held full
@@ -121,13 +122,13 @@ finds_none rest held full level target cs ws h w a = record {
   aside = a;
 }
 
-pub finds_empty : (rest held : List Tree) (full : Option Name) (level : ℕ) (target : Shape)
+pub finds_empty : (rest held : List Tree) (full : FullBlocks) (level : ℕ) (target : Shape)
     (cs ws : List (Option Name)) (from n k : ℕ) → n ≤ k
     → FindsOctants rest level target cs ws from n held full → name_in cs k ≡ None
 finds_empty rest held full level target cs ws from n k h a =
     sym (a.names k) ∙ ap root_of (a.gone k h)
 
-pub finds_held : (rest held new : List Tree) (full : Option Name) (level : ℕ) (target : Shape)
+pub finds_held : (rest held new : List Tree) (full : FullBlocks) (level : ℕ) (target : Shape)
     (cs ws : List (Option Name)) (from n : ℕ)
     → (a : FindsOctants rest level target cs ws from n held full) → Keeps held new
     → AreHeld new cs a.row
@@ -136,7 +137,7 @@ finds_held rest held new full level target cs ws from n a k = record {
   weighs = λ f. omega (arith, a.weighs f, (aside_keeps held a.now full a.aside).weighs f, k.weighs f);
 }
 
-pub finds_number : (rest held : List Tree) (full : Option Name) (level : ℕ) (target : Shape)
+pub finds_number : (rest held : List Tree) (full : FullBlocks) (level : ℕ) (target : Shape)
     (cs ws : List (Option Name)) (from n : ℕ)
     → FindsOctants rest level target cs ws from n held full
     → number_of_trees held ≤ number_of_trees rest + 9
@@ -148,14 +149,14 @@ finds_number rest held full level target cs ws from n a =
       weight_below-one a.row 8,
     )
 
-pub finds_keeps : (rest held : List Tree) (full : Option Name) (level : ℕ) (target : Shape)
+pub finds_keeps : (rest held : List Tree) (full : FullBlocks) (level : ℕ) (target : Shape)
     (cs ws : List (Option Name)) (from n : ℕ)
     → (a : FindsOctants rest level target cs ws from n held full) → Keeps rest a.now
 finds_keeps rest held full level target cs ws from n a =
     record { weighs = λ f. omega (arith, a.weighs f) }
 
 -- where a full bucket was met on the way to the next octant
-abbrev pub met_finds : (rest held met : List Tree) (full other : Option Name) (level : ℕ)
+abbrev pub met_finds : (rest held met : List Tree) (full other : FullBlocks) (level : ℕ)
     (target : Shape) (cs ws : List (Option Name)) (from n : ℕ)
     → (a : FindsOctants rest level target cs ws from n held full) → Aside met other a.now
     → FindsOctants rest level target cs ws from n met other
@@ -173,7 +174,7 @@ met_finds rest held met full other level target cs ws from n a m =
     }
 
 -- shares in hand went back
-pub finds_back : (rest held met new : List Tree) (full : Option Name) (level : ℕ) (target : Shape)
+pub finds_back : (rest held met new : List Tree) (full : FullBlocks) (level : ℕ) (target : Shape)
     (cs ws : List (Option Name)) (from n : ℕ)
     → (a : FindsOctants rest level target cs ws from n held full)
     → ((f : Tree → ℕ) → weigh f met ≡ weigh f held) → LosesAll met a.row 8 new
@@ -183,6 +184,7 @@ finds_back rest held met new full level target cs ws from n a e l = record {
   root = a.aside.root;
   levels = a.aside.levels;
   shape = a.aside.shape;
+  names = a.aside.names;
   weighs = λ f. omega (arith, a.aside.weighs f, a.weighs f, l.weighs f, e f);
 }
 
@@ -205,7 +207,7 @@ to_come_on a b level mine other target k from next name again h e q le t =
     }
 
 -- one more octant: a share of it came
-finds_made : (rest held new : List Tree) (full other : Option Name) (level : ℕ) (target : Shape)
+finds_made : (rest held new : List Tree) (full other : FullBlocks) (level : ℕ) (target : Shape)
     (cs ds ws vs : List (Option Name)) (k : ℕ) (name : Option Name) → k < 8 → length cs ≡ 8
     → (a : FindsOctants rest level target cs ws 0 k held full)
     → (c : FoundBeside a.now level (octant_shape target k) (Made name) new other)
@@ -255,7 +257,7 @@ finds_made rest held new full other level target cs ds ws vs k name lt e a c d w
     }
 
 -- it stands
-finds_stands : (rest held new : List Tree) (full other : Option Name) (level : ℕ) (target : Shape)
+finds_stands : (rest held new : List Tree) (full other : FullBlocks) (level : ℕ) (target : Shape)
     (cs ds ws vs : List (Option Name)) (k : ℕ) (name : Option Name) → k < 8 → length ws ≡ 8
     → (a : FindsOctants rest level target cs ws 0 k held full)
     → (c : FoundBeside a.now level (octant_shape target k) (Stands name) new other)
@@ -293,7 +295,7 @@ finds_stands rest held new full other level target cs ds ws vs k name lt e a c d
       aside = c.aside;
     }
 
-pub finds_one : (rest held new : List Tree) (full other : Option Name) (level : ℕ) (target : Shape)
+pub finds_one : (rest held new : List Tree) (full other : FullBlocks) (level : ℕ) (target : Shape)
     (cs ds ws vs : List (Option Name)) (k : ℕ) (block : WalkedBlock) → k < 8 → length cs ≡ 8
     → length ws ≡ 8 → (a : FindsOctants rest level target cs ws 0 k held full)
     → (c : FoundBeside a.now level (octant_shape target k) block new other)
@@ -308,7 +310,7 @@ finds_one rest held new full other level target cs ds ws vs k (Made name) lt e l
 -- ---- shares of those that stand
 
 -- an octant that has a name is yet to come
-pub to_come : (rest held : List Tree) (full : Option Name) (level : ℕ) (target : Shape)
+pub to_come : (rest held : List Tree) (full : FullBlocks) (level : ℕ) (target : Shape)
     (cs ws : List (Option Name)) (k : ℕ) (n : Name) → k < 8
     → (a : FindsOctants rest level target cs ws k 8 held full) → name_in ws k ≡ Some n
     → ToCome a.now level (a.row k) (octant_shape target k) k k (name_in ws k)
@@ -318,7 +320,7 @@ to_come rest held full level target cs ws k n lt a e = elim (a.each k lt) [
 ]
 
 -- one of them that has no name
-pub fill_none : (rest held : List Tree) (full : Option Name) (level : ℕ) (target : Shape)
+pub fill_none : (rest held : List Tree) (full : FullBlocks) (level : ℕ) (target : Shape)
     (cs ws : List (Option Name)) (k : ℕ) → name_in ws k ≡ None
     → FindsOctants rest level target cs ws k 8 held full
     → FindsOctants rest level target cs ws (k + 1) 8 held full
@@ -346,7 +348,7 @@ fill_none rest held full level target cs ws k e a = record {
 }
 
 -- one more share
-pub fill_one : (rest held new : List Tree) (full : Option Name) (level : ℕ) (target : Shape)
+pub fill_one : (rest held new : List Tree) (full : FullBlocks) (level : ℕ) (target : Shape)
     (cs ds ws : List (Option Name)) (k : ℕ) (n m : Name) → (lt : k < 8) → length cs ≡ 8
     → (a : FindsOctants rest level target cs ws k 8 held full) → (e : name_in ws k ≡ Some n)
     → m ≡ n → Gains held (to_come rest held full level target cs ws k n lt a e).standing.tree new
@@ -400,11 +402,12 @@ fill_one rest held new full level target cs ds ws k n m lt len a e r g d =
         root = a.aside.root;
         levels = a.aside.levels;
         shape = a.aside.shape;
+        names = a.aside.names;
         weighs = λ f. omega (arith, a.aside.weighs f, g.weighs f, weigh-cons f t a.now);
       };
     }
 
-pub now_filled : (rest held : List Tree) (full : Option Name) (level : ℕ) (target : Shape)
+pub now_filled : (rest held : List Tree) (full : FullBlocks) (level : ℕ) (target : Shape)
     (cs ws : List (Option Name)) (k : ℕ) → 8 ≤ k
     → (a : FindsOctants rest level target cs ws k 8 held full)
     → (g : Gathers rest level target cs 8 held full) × (g.now ≡ a.now)
@@ -429,7 +432,7 @@ now_filled rest held full level target cs ws k le a = (
 
 -- ---- the block of octants that all stand
 
-abbrev none_weigh : (rest held : List Tree) (full : Option Name) (level : ℕ) (target : Shape)
+abbrev none_weigh : (rest held : List Tree) (full : FullBlocks) (level : ℕ) (target : Shape)
     (cs ws : List (Option Name)) → (a : FindsOctants rest level target cs ws 0 8 held full)
     → ((k : ℕ) → k < 8 → name_in cs k ≡ None) → (f : Tree → ℕ) → weigh f a.now ≡ weigh f rest
 none_weigh rest held full level target cs ws a none f =
@@ -439,7 +442,7 @@ none_weigh rest held full level target cs ws a none f =
       gone_weigh f a.row 8 (λ k lt. gone_from_root (a.row k) (a.names k ∙ none k lt)),
     )
 
-pub stays_aside : (rest held : List Tree) (full : Option Name) (level : ℕ) (target : Shape)
+pub stays_aside : (rest held : List Tree) (full : FullBlocks) (level : ℕ) (target : Shape)
     (cs ws : List (Option Name)) → FindsOctants rest level target cs ws 0 8 held full
     → ((k : ℕ) → k < 8 → name_in cs k ≡ None) → Aside held full rest
 stays_aside rest held full level target cs ws a none = record {
@@ -447,10 +450,11 @@ stays_aside rest held full level target cs ws a none = record {
   root = a.aside.root;
   levels = a.aside.levels;
   shape = a.aside.shape;
+  names = a.aside.names;
   weighs = λ f. omega (arith, a.aside.weighs f, none_weigh rest held full level target cs ws a none f);
 }
 
-pub stays_reaches : (rest held : List Tree) (full : Option Name) (level : ℕ) (target : Shape)
+pub stays_reaches : (rest held : List Tree) (full : FullBlocks) (level : ℕ) (target : Shape)
     (cs ws : List (Option Name)) → (a : FindsOctants rest level target cs ws 0 8 held full)
     → ((k : ℕ) → k < 8 → name_in cs k ≡ None) → ReachesAll a.now rest
 stays_reaches rest held full level target cs ws a none =
@@ -487,7 +491,7 @@ same_octants level (Branch a1 a2 a3 a4 a5 a6 a7 a8) t p d e =
     ) in
     all ∙ q
 
-octant_stays : (rest held : List Tree) (full : Option Name) (level : ℕ) (target : Shape)
+octant_stays : (rest held : List Tree) (full : FullBlocks) (level : ℕ) (target : Shape)
     (cs ws : List (Option Name)) (old : Option Name) (t : Tree) (k : ℕ) → k < 8 → OneEach held
     → (a : FindsOctants rest (level - 1) target cs ws 0 8 held full)
     → ((j : ℕ) → j < 8 → name_in cs j ≡ None) → IsBlockOf held level old t
@@ -508,7 +512,7 @@ octant_stays rest held full level target cs ws old t k lt one a none b e = elim 
 ]
 
 -- the old block is the target
-pub stays_shape : (rest held : List Tree) (full : Option Name) (level : ℕ) (target : Shape)
+pub stays_shape : (rest held : List Tree) (full : FullBlocks) (level : ℕ) (target : Shape)
     (cs ws : List (Option Name)) (old : Option Name) (t : Tree) → 1 ≤ level → OneEach held
     → IsCanonical level target → (a : FindsOctants rest (level - 1) target cs ws 0 8 held full)
     → ((j : ℕ) → j < 8 → name_in cs j ≡ None) → HasOctantNames held level old ws
@@ -531,13 +535,13 @@ leaf_of_bits (Branch a1 a2 a3 a4 a5 a6 a7 a8) c = absurd c
 
 -- those before octant k that stand have their shares, and nothing that was reached is lost
 pub record Filling (rest was : List Tree) (level : ℕ) (target : Shape)
-    (children standing : List (Option Name)) (k : ℕ) (held : List Tree) (full : Option Name)
+    (children standing : List (Option Name)) (k : ℕ) (held : List Tree) (full : FullBlocks)
     : Type 0 where
   pub finds : FindsOctants rest level target children standing k 8 held full
   pub keeps : Keeps was finds.now
 
 pub filling_none : (rest was : List Tree) (level : ℕ) (target : Shape)
-    (cs ws : List (Option Name)) (k : ℕ) (held : List Tree) (full : Option Name)
+    (cs ws : List (Option Name)) (k : ℕ) (held : List Tree) (full : FullBlocks)
     → name_in ws k ≡ None → Filling rest was level target cs ws k held full
     → Filling rest was level target cs ws (k + 1) held full
 unfolding fill_none
@@ -545,7 +549,7 @@ filling_none rest was level target cs ws k held full e f =
     record { finds = fill_none rest held full level target cs ws k e f.finds; keeps = f.keeps }
 
 pub filling_one : (rest was : List Tree) (level : ℕ) (target : Shape)
-    (cs ds ws : List (Option Name)) (k : ℕ) (held new : List Tree) (full : Option Name) (n m : Name)
+    (cs ds ws : List (Option Name)) (k : ℕ) (held new : List Tree) (full : FullBlocks) (n m : Name)
     → k < 8 → length cs ≡ 8 → name_in ws k ≡ Some n → m ≡ n
     → ((t : Tree) → IsReached held t → root_of t ≡ Some n → Gains held t new)
     → ds ≡ set cs k (Some m) → Filling rest was level target cs ws k held full
@@ -564,7 +568,7 @@ filling_one rest was level target cs ds ws k held new full n m lt len e r gains 
     }
 
 pub filling_step : (rest was : List Tree) (level : ℕ) (target : Shape)
-    (cs ds ws : List (Option Name)) (k : ℕ) (held new : List Tree) (full name : Option Name)
+    (cs ds ws : List (Option Name)) (k : ℕ) (held new : List Tree) (full : FullBlocks) (name : Option Name)
     → k < 8 → length cs ≡ 8 → name_in ws k ≡ name → FillsIn name k cs ds held new
     → Filling rest was level target cs ws k held full
     → Filling rest was level target ds ws (k + 1) new full
@@ -576,7 +580,7 @@ filling_step rest was level target cs ds ws k held new full (Some n) lt len e (d
     filling_one rest was level target cs ds ws k held new full n n lt len e refl g d f
 
 pub filling_reaches : (rest was : List Tree) (level : ℕ) (target : Shape)
-    (cs ws : List (Option Name)) (k : ℕ) (held : List Tree) (full : Option Name) (n : Name) → k < 8
+    (cs ws : List (Option Name)) (k : ℕ) (held : List Tree) (full : FullBlocks) (n : Name) → k < 8
     → name_in ws k ≡ Some n → Filling rest was level target cs ws k held full → ReachesName held n
 filling_reaches rest was level target cs ws k held full n lt e f =
     let a = f.finds in
@@ -589,7 +593,7 @@ filling_reaches rest was level target cs ws k held full n lt e f =
     }
 
 pub filling_empty : (rest was : List Tree) (level : ℕ) (target : Shape)
-    (cs ws : List (Option Name)) (k : ℕ) (held : List Tree) (full : Option Name) (n : Name) → k < 8
+    (cs ws : List (Option Name)) (k : ℕ) (held : List Tree) (full : FullBlocks) (n : Name) → k < 8
     → name_in ws k ≡ Some n → Filling rest was level target cs ws k held full
     → name_in cs k ≡ None
 filling_empty rest was level target cs ws k held full n lt e f =
@@ -597,7 +601,7 @@ filling_empty rest was level target cs ws k held full n lt e f =
     sym (f.finds.names k) ∙ ap root_of x.none
 
 pub all_filled : (rest was : List Tree) (level : ℕ) (target : Shape) (cs ws : List (Option Name))
-    (k : ℕ) (held : List Tree) (full : Option Name) → 8 ≤ k
+    (k : ℕ) (held : List Tree) (full : FullBlocks) → 8 ≤ k
     → Filling rest was level target cs ws k held full → Fills rest was level target cs held full
 all_filled rest was level target cs ws k held full le f =
     let (g, same) = now_filled rest held full level target cs ws k le f.finds in
@@ -619,7 +623,7 @@ names_more t ws k part h e q j lt = elim (cases_eq j k) [
 
 -- ---- a share of what was found
 
-pub found_there : (rest held : List Tree) (full : Option Name) (level : ℕ) (target : Shape)
+pub found_there : (rest held : List Tree) (full : FullBlocks) (level : ℕ) (target : Shape)
     (name : Option Name) → FoundBeside rest level target (Stands name) held full
     → HasTree held name
 found_there rest held full level target name a = (

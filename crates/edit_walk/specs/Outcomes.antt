@@ -1,6 +1,7 @@
 -- What a walk finds a block to be: one that stands below what is held, of which no share is taken,
 -- or one of which a share came.
 use Rattle.std.specs.Prelude.{◌≡◌, ℕ, ◌+◌, ◌-◌, ◌<◌, ◌≤◌, ◌⊎◌, Option, Some, None, List, Result, Ok, Err, slice_set}
+use Rattle.edit_walk.specs.declared.blocks.full_blocks.FullBlocks.{FullBlocks}
 use Rattle.node_words.specs.declared.shapes.names.Name.{Name}
 use Rattle.node_words.specs.shapes.Shape.{Shape, IsCanonical, octant_shape, bits_of}
 use Rattle.node_words.specs.shapes.Tree.{Tree, Gone, root_of, child_of, shape_of, IsTreeAt}
@@ -38,7 +39,7 @@ Comes rest level target (Made name) now = GainsShare rest level target name now
 
 -- besides the rest and the full block aside such a block was found
 pub record FoundBeside (rest : List Tree) (level : ℕ) (target : Shape) (block : WalkedBlock)
-    (held : List Tree) (full : Option Name) : Type 0 where
+    (held : List Tree) (full : FullBlocks) : Type 0 where
   pub now : List Tree
   pub comes : Comes rest level target block now
   pub aside : Aside held full now
@@ -54,13 +55,13 @@ IsLaid (Made name) k children standing laid named =
 -- such a block was found, beside whatever is held
 abbrev pub HasBlockFound : WalkedBlock → StoreState → Type 0
 HasBlockFound block seen =
-    (rest : List Tree) × (full : Option Name) × (level : ℕ) × (target : Shape)
+    (rest : List Tree) × (full : FullBlocks) × (level : ℕ) × (target : Shape)
     × FoundBeside rest level target block seen.held full
 
 -- a share of the block that was found came besides the rest and the full block aside
 abbrev pub TakesUp : WalkedBlock → Option Name → StoreState → StoreState → Type 0
 TakesUp block share old new =
-    (rest : List Tree) (full : Option Name) (level : ℕ) (target : Shape)
+    (rest : List Tree) (full : FullBlocks) (level : ℕ) (target : Shape)
     → (a : FoundBeside rest level target block old.held full)
     → Joined rest a.now level target share new.held full
 
@@ -84,7 +85,7 @@ pub record ToCome (held : List Tree) (level : ℕ) (mine : Tree) (target : Shape
 -- besides the rest and the full block aside the first n octants of the target were found: shares of
 -- children, and of those before octant `from` that stand; the others stand by these names
 pub record FindsOctants (rest : List Tree) (level : ℕ) (target : Shape)
-    (children standing : List (Option Name)) (from n : ℕ) (held : List Tree) (full : Option Name)
+    (children standing : List (Option Name)) (from n : ℕ) (held : List Tree) (full : FullBlocks)
     : Type 0 where
   pub now : List Tree
   pub row : ℕ → Tree
@@ -101,21 +102,21 @@ pub record FindsOctants (rest : List Tree) (level : ℕ) (target : Shape)
 -- all octants of a canonical block of this level were found
 abbrev pub HasFound : ℕ → List (Option Name) → List (Option Name) → StoreState → Type 0
 HasFound level children standing seen =
-    (rest : List Tree) × (full : Option Name) × (target : Shape) × IsCanonical level target
+    (rest : List Tree) × (full : FullBlocks) × (target : Shape) × IsCanonical level target
     × FindsOctants rest (level - 1) target children standing 0 8 seen.held full
 
 -- P of each such block: of the rest, the full block aside, the block's shape, and what is held
 -- besides the block aside
 abbrev pub ForFound : ℕ → List (Option Name) → List (Option Name) → StoreState
-    → (List Tree → Option Name → Shape → List Tree → Type 0) → Type 0
+    → (List Tree → FullBlocks → Shape → List Tree → Type 0) → Type 0
 ForFound level children standing seen P =
-    (rest : List Tree) (full : Option Name) (target : Shape) → IsCanonical level target
+    (rest : List Tree) (full : FullBlocks) (target : Shape) → IsCanonical level target
     → (a : FindsOctants rest (level - 1) target children standing 0 8 seen.held full)
     → P rest full target a.now
 
 -- shares of all octants are in hand, and nothing that was reached is lost
 pub record Fills (rest was : List Tree) (level : ℕ) (target : Shape) (children : List (Option Name))
-    (held : List Tree) (full : Option Name) : Type 0 where
+    (held : List Tree) (full : FullBlocks) : Type 0 where
   pub gathers : Gathers rest level target children 8 held full
   pub reaches : ReachesAll was gathers.now
 
@@ -134,7 +135,7 @@ HasOctantNames held level old names =
 
 -- the old block, where it is canonical, is the target; nothing came
 pub record StaysOld (rest was : List Tree) (level : ℕ) (old : Option Name) (target : Shape)
-    (name : Option Name) (before after : StoreState) (full : Option Name) : Type 0 where
+    (name : Option Name) (before after : StoreState) (full : FullBlocks) : Type 0 where
   pub is : name ≡ old
   pub shape : (t : Tree) → IsBlockOf before.held level old t → IsCanonical level (shape_of t)
       → shape_of t ≡ target
@@ -144,7 +145,7 @@ pub record StaysOld (rest was : List Tree) (level : ℕ) (old : Option Name) (ta
 
 -- the block of the octants is the old one, or a share of it came, or it met this full bucket
 abbrev pub NodeFound : List Tree → List Tree → ℕ → Option Name → Shape → Result WalkedBlock Full
-    → StoreState → StoreState → Option Name → Type 0
+    → StoreState → StoreState → FullBlocks → Type 0
 NodeFound rest was level old target (Ok (Stands name)) before after full =
     StaysOld rest was level old target name before after full
 NodeFound rest was level old target (Ok (Made name)) before after full =

@@ -1,6 +1,7 @@
 -- What a walk over the blocks of a rebuild starts from, and what it leaves for each outcome.
 use Rattle.std.specs.Prelude.{ℕ, ◌+◌, ◌-◌, ◌*◌, ◌≤◌, max, Bool, Option, List, Result, Ok, Err}
 use Rattle.vw_cell.specs.declared.cells.Cell.{Cell}
+use Rattle.edit_walk.specs.declared.blocks.full_blocks.FullBlocks.{FullBlocks}
 use Rattle.node_words.specs.declared.shapes.names.Name.{Name}
 use Rattle.node_words.specs.shapes.Shape.{Shape}
 use Rattle.node_words.specs.shapes.Tree.{Tree}
@@ -22,14 +23,14 @@ use Rattle.edit_walk.specs.Memos.{MemoSet, Recalls}
 -- the state of a walk: what the store is seen as, the full block kept aside, and what is remembered
 pub record Walk (T : Type 0) : Type 1 where
   pub seen : StoreState
-  pub full : Option Name
+  pub full : FullBlocks
   pub memo : MemoSet T
 
-abbrev pub walk_at : {T : Type 0} → StoreState → Option Name → MemoSet T → Walk T
+abbrev pub walk_at : {T : Type 0} → StoreState → FullBlocks → MemoSet T → Walk T
 walk_at seen full memo = record { seen = seen; full = full; memo = memo }
 
 -- trees that stay held, the rest, and a full block aside
-pub record Starts (base rest : List Tree) (seen : StoreState) (full : Option Name) : Type 0 where
+pub record Starts (base rest : List Tree) (seen : StoreState) (full : FullBlocks) : Type 0 where
   pub keeps : Keeps base rest
   pub aside : Aside seen.held full rest
 

@@ -7,12 +7,14 @@
 //! in `specs/blocks/Blocks.antt`.
 
 mod blocks;
+mod full_blocks;
 mod fulls;
 mod rows;
 mod shares;
 
 pub(crate) use blocks::are_none;
 pub use blocks::{join, leaf};
-pub use fulls::full_block;
+pub(crate) use full_blocks::FullBlocks;
+pub(crate) use fulls::full_block;
 pub use rows::{back_all, put};
 pub use shares::{again, back_if, named};

@@ -18,7 +18,7 @@ mod upper;
 mod walks;
 mod worlds;
 
-pub use blocks::{again, back_all, back_if, full_block, join, leaf, named, put};
+pub use blocks::{again, back_all, back_if, join, leaf, named, put};
 pub use cells::{
     Task, Whole, clears_nothing, filled, is_large, leaf_bits, name_of, old_whole, paint, side_of,
 };

@@ -9,7 +9,7 @@ ghost use Rattle.edit_walk.specs.declared.memos.MemoEntry.{MemoEntry};
 ghost use Rattle.edit_walk.specs.Memos.{RecallsHeld};
 ghost use Rattle.edit_walk.specs.Walks.{walk_at, CanBuild, TookTurns, FoundTurns, WalksBlock, FindsBlock, TellsBlock, WalksOctants};
 
-use crate::blocks::{back_all, back_if, full_block};
+use crate::blocks::{FullBlocks, back_all, back_if, full_block};
 use crate::cells::{Task, Whole};
 use crate::memos::{Memo, MemoEntry};
 use crate::octants::Octants;
@@ -23,7 +23,7 @@ fn share_of<T: Task, M: Memo<T>, N: NodeStore, L: Ledger>(
     store: &mut N,
     level: u8,
     task: &T,
-    full: &mut Option<Share>,
+    full: &mut FullBlocks,
     memo: &mut M,
     steps: &mut Steps<L>,
 ) -> Result<Option<Share>, Full>
@@ -35,7 +35,7 @@ fn share_of<T: Task, M: Memo<T>, N: NodeStore, L: Ledger>(
         (walk_at (N.seen store.old) full.old (M.has memo.old)) result
         (walk_at (N.seen store.new) full.new (M.has memo.new)) }
     ensures rests { N.rests store.old store.new }
-    ensures took { OnOk result (TookTurns 1 (level + 1) (T.mixed level task.now) full.old full.new
+    ensures took { OnOk result (TookTurns 1 (level + 1) (T.mixed level task.now) full.old.share full.new.share
         steps.old steps.new) }
 {
     let told = told_of(level, task, memo);
@@ -74,7 +74,7 @@ fn build<T: Task, M: Memo<T>, N: NodeStore, L: Ledger>(
     level: u8,
     task: &T,
     told: Told,
-    full: &mut Option<Share>,
+    full: &mut FullBlocks,
     memo: &mut M,
     steps: &mut Steps<L>,
 ) -> Result<WalkedBlock, Full>
@@ -89,7 +89,7 @@ fn build<T: Task, M: Memo<T>, N: NodeStore, L: Ledger>(
         (walk_at (N.seen store.old) full.old (M.has memo.old)) result
         (walk_at (N.seen store.new) full.new (M.has memo.new)) }
     ensures rests { N.rests store.old store.new }
-    ensures took { FoundTurns (level + 1) (T.mixed level task.now) result full.old full.new
+    ensures took { FoundTurns (level + 1) (T.mixed level task.now) result full.old.share full.new.share
         steps.old steps.new }
 {
     match told {
@@ -109,7 +109,7 @@ fn fresh<T: Task, M: Memo<T>, N: NodeStore, L: Ledger>(
     store: &mut N,
     level: u8,
     task: &T,
-    full: &mut Option<Share>,
+    full: &mut FullBlocks,
     memo: &mut M,
     steps: &mut Steps<L>,
 ) -> Result<WalkedBlock, Full>
@@ -123,7 +123,7 @@ fn fresh<T: Task, M: Memo<T>, N: NodeStore, L: Ledger>(
         (walk_at (N.seen store.old) full.old (M.has memo.old)) result
         (walk_at (N.seen store.new) full.new (M.has memo.new)) }
     ensures rests { N.rests store.old store.new }
-    ensures took { FoundTurns (level + 1) (T.mixed level task.now) result full.old full.new
+    ensures took { FoundTurns (level + 1) (T.mixed level task.now) result full.old.share full.new.share
         steps.old steps.new }
 {
     match made(store, level, task, full, memo, steps) {
@@ -146,7 +146,7 @@ fn made<T: Task, M: Memo<T>, N: NodeStore, L: Ledger>(
     store: &mut N,
     level: u8,
     task: &T,
-    full: &mut Option<Share>,
+    full: &mut FullBlocks,
     memo: &mut M,
     steps: &mut Steps<L>,
 ) -> Result<WalkedBlock, Full>
@@ -160,7 +160,7 @@ fn made<T: Task, M: Memo<T>, N: NodeStore, L: Ledger>(
         (walk_at (N.seen store.old) full.old (M.has memo.old)) result
         (walk_at (N.seen store.new) full.new (M.has memo.new)) }
     ensures rests { N.rests store.old store.new }
-    ensures took { FoundTurns (level + 1) (T.mixed level task.now) result full.old full.new
+    ensures took { FoundTurns (level + 1) (T.mixed level task.now) result full.old.share full.new.share
         steps.old steps.new }
 {
     let old = task.old();
@@ -197,7 +197,7 @@ fn gather<T: Task, M: Memo<T>, N: NodeStore, L: Ledger>(
     task: &T,
     children: &mut [Option<Share>; 8],
     standing: &mut [Option<Name>; 8],
-    full: &mut Option<Share>,
+    full: &mut FullBlocks,
     memo: &mut M,
     steps: &mut Steps<L>,
 ) -> Result<(), Full>
@@ -213,8 +213,8 @@ fn gather<T: Task, M: Memo<T>, N: NodeStore, L: Ledger>(
         (walk_at (N.seen store.new) full.new (M.has memo.new)) }
     ensures none { OnErr result ((k : ℕ) → k < 8 → name_in children.new k ≡ None) }
     ensures rests { N.rests store.old store.new }
-    ensures took { OnOk result (TookTurns 8 level (sum_below 8 (T.mixed_in level task.now)) full.old
-        full.new steps.old steps.new) }
+    ensures took { OnOk result (TookTurns 8 level (sum_below 8 (T.mixed_in level task.now)) full.old.share
+        full.new.share steps.old steps.new) }
 {
     let octants = Octants::of(store, level, *task);
     for k in 0..8usize {
@@ -269,14 +269,25 @@ pub fn rebuild<T: Task, M: Memo<T>, N: NodeStore, L: Ledger>(
         (steps.new ≤ steps.old + 25 * T.mixed level task.now + 25 * (level + 1)) }
 {
     let _held = store.held();
-    let mut full: Option<Share> = None;
+    let mut full = FullBlocks {
+        share: None,
+        names: [None; 11],
+    };
     match share_of(store, level, task, &mut full, memo, steps) {
         Ok(share) => {
-            back_if(store, full, steps);
+            let FullBlocks {
+                share: aside,
+                names: _,
+            } = full;
+            back_if(store, aside, steps);
             Ok(share)
         }
         Err(e) => {
-            back_if(store, full, steps);
+            let FullBlocks {
+                share: aside,
+                names: _,
+            } = full;
+            back_if(store, aside, steps);
             Err(e)
         }
     }

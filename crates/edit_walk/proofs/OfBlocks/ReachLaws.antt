@@ -1,6 +1,7 @@
 -- What was reached stays reached while shares come and are joined.
 use Rattle.std.proofs.Common.{◌≡◌, ℕ, zero, suc, ◌+◌, ◌-◌, ◌<◌, ◌≤◌, Some, None, Option, List, [], ◌∷◌, refl, sym, ◌∙◌, ap, subst, arith, inl, inr}
 use Rattle.std.proofs.lemmas.Bool.{cases_lt}
+use Rattle.edit_walk.specs.declared.blocks.full_blocks.FullBlocks.{FullBlocks}
 use Rattle.node_words.specs.declared.shapes.names.Name.{Name}
 use Rattle.node_words.specs.shapes.Shape.{Shape, IsCanonical}
 use Rattle.node_words.specs.shapes.Tree.{Tree, Gone, LeafAt, NodeAt, node_at, IsSubtree, below}
@@ -90,7 +91,7 @@ joins_reaches rest was row n w = record {
   ];
 }
 
-pub join_none_joined : (rest held : List Tree) (full : Option Name) (level : ℕ) (target : Shape)
+pub join_none_joined : (rest held : List Tree) (full : FullBlocks) (level : ℕ) (target : Shape)
     (cs : List (Option Name)) → 1 ≤ level → IsCanonical level target
     → (a : Gathers rest (level - 1) target cs 8 held full) → ((k : ℕ) → k < 8 → name_in cs k ≡ None)
     → Joined rest a.now level target None held full
@@ -101,7 +102,7 @@ join_none_joined rest held full level target cs h c a none =
           record { each = λ t r. r };
     }
 
-pub join_some_joined : (rest held new : List Tree) (full : Option Name) (level : ℕ) (target : Shape)
+pub join_some_joined : (rest held new : List Tree) (full : FullBlocks) (level : ℕ) (target : Shape)
     (cs : List (Option Name)) (n : Name) → 1 ≤ level → IsCanonical level target → HasChild cs
     → n.level ≡ level → (a : Gathers rest (level - 1) target cs 8 held full)
     → Joins held a.gathered.row n new → Joined rest a.now level target (Some n) new full
@@ -110,7 +111,7 @@ join_some_joined rest held new full level target cs n h c some l a j = record {
   reaches = joins_reaches rest a.now a.gathered.row n (λ f. a.gathered.weighs f);
 }
 
-pub came_keeps : (rest held : List Tree) (level : ℕ) (target : Shape) (name full : Option Name)
+pub came_keeps : (rest held : List Tree) (level : ℕ) (target : Shape) (name : Option Name) (full : FullBlocks)
     → (w : GainedShare rest level target name held full) → Keeps rest w.now
 came_keeps rest held level target name full w =
     record { weighs = λ f. omega (arith, w.comes.weighs f) }

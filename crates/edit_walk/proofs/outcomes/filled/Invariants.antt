@@ -1,5 +1,5 @@
-use Rattle.std.proofs.Common.{◌≡◌, ◌+◌, ◌-◌, ◌≤◌, List, Option, length}
-use Rattle.node_words.specs.declared.shapes.names.Name.{Name}
+use Rattle.std.proofs.Common.{◌≡◌, ◌+◌, ◌-◌, ◌≤◌, List, length}
+use Rattle.edit_walk.specs.declared.blocks.full_blocks.FullBlocks.{FullBlocks}
 use Rattle.node_words.specs.shapes.Shape.{Shape, IsCanonical}
 use Rattle.node_words.specs.shapes.Tree.{Tree}
 use Rattle.node_words.specs.shapes.Weights.{number_of_trees}
@@ -12,7 +12,7 @@ abbrev pub invariant-loop-k : goal.invariant-loop-k
 invariant-loop-k g l =
     let seen = g.N.Blocks.seen in
     record {
-      filling : (rest : List Tree) (full : Option Name) (target : Shape) → IsCanonical l._level target
+      filling : (rest : List Tree) (full : FullBlocks) (target : Shape) → IsCanonical l._level target
           → (a : FindsOctants rest (l._level - 1) target l.fn.children l.standing 0 8
           (seen l.fn.store).held full)
           → Filling rest a.now (l._level - 1) target l.all l.standing l.k (seen l.store).held full;

@@ -291,7 +291,7 @@ gather-loop-k-preserved g t c =
     let low = octant_mixed g.T.Task.mixed (c.args.level - 1) (f c.loop-k.k) _ _ c.at-part.ensures
     (c.of-octants.ensures.mixed c.loop-k.k lt) in
     let took : TookTurns 1 (c.args.level - 1 + 1)
-    (g.T.Task.mixed (c.args.level - 1) c.at-part.result.now) c.loop-k.full c.match-told.full
+    (g.T.Task.mixed (c.args.level - 1) c.at-part.result.now) c.loop-k.full.share c.match-told.full.share
     c.loop-k.steps c.match-told.steps =
     elim c.match-told.branch [
       | gather-in-Standing w ↦ rw (w.full-is, w.steps-is)

@@ -32,8 +32,8 @@ invariant-gather-loop-k g l =
           → Begins g.T.Task.makes base rest l.level l.task cells
           (walk_at (seen l.fn.store) l.fn.full (g.M.Memo.has l.fn.memo))
           → Grows (shape_with l.level cells) (seen l.fn.store) (seen l.store);
-      turns : l.steps + 16 * height l.fn.full ≤ l.fn.steps + 16 * height l.full + l.k + 25 * sum_below l.k (g.T.Task.mixed_in l.level l.task);
-      height_is : height l.full ≤ max (height l.fn.full) l.level;
+      turns : l.steps + 16 * height l.fn.full.share ≤ l.fn.steps + 16 * height l.full.share + l.k + 25 * sum_below l.k (g.T.Task.mixed_in l.level l.task);
+      height_is : height l.full.share ≤ max (height l.fn.full.share) l.level;
       long : length l.children ≡ 8;
       wide : length l.standing ≡ 8;
       rests : g.N.Blocks.rests l.fn.store l.store;

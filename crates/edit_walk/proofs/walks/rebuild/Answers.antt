@@ -77,7 +77,7 @@ returns-in-Ok-clause-turns g c =
     (c.in-Ok.ensures.walked _ _ cells
     (begins_held _ base _ _ _ cells _ g.T.Task.lasts c.held-held.ensures.trees.named k c.requires.memo m)).built.came in
     let b =
-    back_turns _ c.share_of.new.full w.aside.tree _ _ c.back_if.ensures.none
+    back_turns _ c.share_of.new.full.share w.aside.tree _ _ c.back_if.ensures.none
     (λ n e. c.back_if.ensures.turns w.aside.tree n e w.aside.root
     (aside_may _ _ _ w.aside)) w.aside.shape in
     omega (arith, b, c.in-Ok.ensures.took.turns, c.in-Ok.ensures.took.height_is)

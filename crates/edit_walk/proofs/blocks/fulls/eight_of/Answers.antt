@@ -1,7 +1,7 @@
-use Rattle.std.proofs.Common.{◌∙◌, refl, arith, subst, None, ℕ, ◌≡◌, ◌+◌}
+use Rattle.std.proofs.Common.{◌∙◌, refl, arith, subst, ℕ, ◌≡◌, ◌+◌}
 use Rattle.node_words.specs.contents.CellShapes.{full_shape}
 use Rattle.node_words.proofs.HeldLaws.{only_nothing, only_on}
-use Rattle.edit_walk.specs.blocks.Blocks.{Gathers}
+use Rattle.edit_walk.specs.blocks.Blocks.{Gathers, no_full_blocks}
 use Rattle.edit_walk.proofs.OfBlocks.JoinLaws.{gathers_none, full_gathers, gathers_empty, aside_came}
 use Rattle.edit_walk.proofs.blocks.fulls.eight_of.Goals as goal
 
@@ -55,5 +55,5 @@ returns-clause-gathers g c rest n e a =
     subst (λ (k : ℕ). Gathers rest n.level (full_shape (n.level + 1)) c.loop-k.children k
     (g.N.Blocks.seen c.loop-k.store).held c.args.below) seven
     (c.loop-k.invariant.gathers rest n e a) in
-    full_gathers rest _ _ _ None n.level _ _ 7 c.args.below (omega arith) c.loop-k.invariant.long x
+    full_gathers rest _ _ _ no_full_blocks n.level _ _ 7 c.args.below.share (omega arith) c.loop-k.invariant.long x
     (aside_came _ x.now _ n e x.aside) c.put-2.ensures

@@ -11,7 +11,7 @@ abbrev pub invariant-loop-k : goal.invariant-loop-k
 invariant-loop-k g l =
     let seen = g.N.Blocks.seen in
     record {
-      gathers : (rest : List Tree) (n : Name) → l.fn.below ≡ Some n
+      gathers : (rest : List Tree) (n : Name) → l.fn.below.share ≡ Some n
           → Aside (seen l.fn.store).held l.fn.below rest
           → Gathers rest n.level (full_shape (n.level + 1)) l.children l.k
           (seen l.store).held l.fn.below;

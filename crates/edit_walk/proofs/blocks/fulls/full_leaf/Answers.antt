@@ -1,5 +1,5 @@
-use Rattle.std.proofs.Common.{sym, refl, subst, Option}
-use Rattle.node_words.specs.declared.shapes.names.Name.{Name}
+use Rattle.std.proofs.Common.{sym, refl, ap, subst, Some}
+use Rattle.edit_walk.specs.declared.blocks.full_blocks.FullBlocks.{FullBlocks}
 use Rattle.edit_walk.specs.blocks.Blocks.{Aside}
 use Rattle.node_words.proofs.OfContents.FullShapes.{full_leaf}
 use Rattle.edit_walk.proofs.OfBlocks.AsideLaws.{first_aside, first_grows, meets_refuses}
@@ -7,9 +7,10 @@ use Rattle.edit_walk.proofs.blocks.fulls.full_leaf.Goals as goal
 
 pub returns-in-Ok-clause-rest : goal.returns-in-Ok-clause-rest
 returns-in-Ok-clause-rest g c rest a =
-    subst (λ (m : Option Name). Aside (g.N.Blocks.seen c.leaf.new.self).held m rest)
-    (sym c.set_aside.ensures)
-    (first_aside _ _ rest _ c.in-Ok.share _ refl c.requires.none c.in-Ok.ensures.level c.in-Ok.ensures.held a)
+    subst (λ (m : FullBlocks). Aside (g.N.Blocks.seen c.leaf.new.self).held m rest)
+    (sym c.become_these.ensures)
+    (first_aside _ _ rest _ c.in-Ok.share _ _ refl c.requires.none c.in-Ok.ensures.level
+    (ap Some c.name.ensures) c.in-Ok.ensures.held a)
 
 pub returns-in-Ok-clause-grows : goal.returns-in-Ok-clause-grows
 returns-in-Ok-clause-grows g c = first_grows _ _ _ refl c.in-Ok.ensures.grants
