@@ -1,20 +1,26 @@
 #!/usr/bin/env python3
 """Compares the library with the world of plain Python (bindings/python/voxdag/slow.py), call by call.
 
-    oracle/library.py [SEED] [CALLS] [--library PATH]
+    oracle/library.py [SEED] [CALLS] [--library PATH] [--program PATH]
 
 So many calls by chance (100,000) are made of worlds of sides 4 to 32, each lives for some hundreds of calls: changes,
 undos, versions that are forgotten, every question, saves, journals, files of versions, which are asked by themselves
 too; journals are gone on with, some with one byte changed; scenes by chance are opened, as oracle/scenes.py reads them; and in one call of eight a number is
 wrong. What the library answers, or its refusal with the line
 that it tells, has to be what the slow world answers. SEED is by default the day's date as a number. Calls that the
-library doesn't export are named and passed over. The last line is 'N passed, M failed'.
+library doesn't export are named and passed over.
+
+With the program there, `audit --keep` is asked of worlds that hold their last versions alone: of the journal, with a
+script of the changes and a transcript in which each was done, it says yes, and with another number no. The last line is
+'N passed, M failed'.
 """
 
 import argparse
 import datetime
 import pathlib
+import subprocess
 import sys
+import tempfile
 import time
 from collections import Counter
 from random import Random
@@ -261,17 +267,78 @@ def compare(library: voxdag.Library, seed: int, calls: int) -> tuple[int, Counte
     return differ, kinds
 
 
+def spelled(name: str, arguments: tuple, tints: bool) -> str:
+    """A change as a script's line. A cell without a word for its tint gets the first one."""
+    numbers = [n for given in arguments for n in (given if isinstance(given, tuple) else (given,))]
+    if name == "copy":
+        numbers.insert(6, "to")
+    elif tints and name in ("fill", "ball") and len(arguments) == 1 + (name == "ball"):
+        numbers.append(1)
+    return " ".join(map(str, [name, *numbers]))
+
+
+def changed(pair: Pair, rng: Random, number: int) -> tuple[str, str]:
+    """Makes so many changes of a pair's worlds, and gives a script and a transcript of those that aren't refused."""
+    script, transcript = [], []
+    while len(script) < number:
+        name = rng.choices([*CHANGES], [*CHANGES.values()])[0]
+        arguments = pair.arguments(name)
+        if pair.both(name, arguments) == name:
+            script.append(spelled(name, arguments, pair.tints))
+            said = f"forgot {arguments[0]}" if name == "forget" else "ok"
+            transcript.append(f"{len(script)} @{pair.slow.newest} {said}")
+    return "".join(line + "\n" for line in script), "".join(line + "\n" for line in transcript)
+
+
+def audit(library: voxdag.Library, program: str, rng: Random) -> int:
+    """Asks for audits of a world that holds its last versions alone, and gives for which number no other answer came than
+    it should."""
+    pair = Pair(library, rng)
+    while not pair.keep:
+        pair = Pair(library, rng)
+    script, transcript = changed(pair, rng, pair.keep + rng.randint(3, 20))
+    with tempfile.TemporaryDirectory() as folder:
+        place = pathlib.Path(folder)
+        for name, content in (("m", pair.file or FILES[1][0]), ("j", pair.fast.journal()), ("s", script.encode()), ("s.out", transcript.encode())):
+            (place / name).write_bytes(content)
+        for keep, wanted in ((pair.keep, "yes\n"), (pair.keep + 1, "no\n"), (0, "no\n")):
+            words = [program, "audit", *(["--keep", str(keep)] if keep else []), "m", "j", "s"]
+            done = subprocess.run(words, cwd=folder, capture_output=True, text=True, timeout=600)
+            if (done.returncode, done.stdout, done.stderr) != (0, wanted, ""):
+                said = f"{done.returncode} {done.stdout}{done.stderr}"
+                raise Differs(f"audit --keep {keep} of {pair.fast.journal()}, {script!r}: wanted {wanted}, given {said}")
+    pair.fast.close()
+    return pair.keep
+
+
+def audits(library: voxdag.Library, program: str, seed: int, worlds: int = 40) -> int:
+    """How many of so many worlds aren't audited as they should be."""
+    kinds, differ = Counter(), 0
+    for number in range(worlds):
+        try:
+            kinds[audit(library, program, Random(f"{seed} audit {number}"))] += 1
+        except Differs as differs:
+            differ += 1
+            print(f"seed {seed}, audit {number}\n  {differs}", flush=True)
+    print(f"{worlds} audits: " + ", ".join(f"--keep {keep} {count}" for keep, count in sorted(kinds.items())))
+    return differ
+
+
 def main() -> None:
     parser = argparse.ArgumentParser(description=__doc__, formatter_class=argparse.RawDescriptionHelpFormatter)
     parser.add_argument("seed", nargs="?", type=int, default=int(f"{datetime.date.today():%Y%m%d}"))
     parser.add_argument("calls", nargs="?", type=int, default=100_000)
     parser.add_argument("--library", type=pathlib.Path)
+    parser.add_argument("--program", type=pathlib.Path)
     words = parser.parse_args()
     begin = time.monotonic()
-    differ, _ = compare(voxdag.load(words.library), words.seed, words.calls)
+    library = voxdag.load(words.library)
+    failed = [compare(library, words.seed, words.calls)[0] > 0]
+    if words.program and library.exports("open_as"):
+        failed.append(audits(library, str(words.program.resolve()), words.seed) > 0)
     print(f"{time.monotonic() - begin:.0f} s")
-    print(f"{0 if differ else 1} passed, {1 if differ else 0} failed")
-    sys.exit(differ > 0)
+    print(f"{failed.count(False)} passed, {failed.count(True)} failed")
+    sys.exit(any(failed))
 
 
 if __name__ == "__main__":

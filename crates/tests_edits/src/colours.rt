@@ -4,7 +4,11 @@
 #[cfg(test)]
 mod asking;
 #[cfg(test)]
+mod cells;
+#[cfg(test)]
 mod crowds;
+#[cfg(test)]
+mod open;
 #[cfg(test)]
 mod tests;
 #[cfg(test)]

@@ -1,5 +1,5 @@
-//! Tests of the words that the program's top call takes, of its commands besides `run`, and of the
-//! examples of `docs/SCRIPTS.md`. It holds tests, over shelves and sinks in memory, of which one
+//! Tests of the words that the program's top call takes, of its commands besides `run`, of the
+//! examples of `docs/SCRIPTS.md`, and of the calls that ask versions of a file. It holds tests, over shelves and sinks in memory, of which one
 //! takes real files in a folder of its own; and what other tests ask the top call.
 #![tactic(auto)]
 
@@ -30,6 +30,8 @@ mod guide_tests;
 mod look_tests;
 #[cfg(test)]
 mod scene_tests;
+#[cfg(test)]
+mod version_tests;
 #[cfg(test)]
 mod word_tests;
 

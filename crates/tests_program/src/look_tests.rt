@@ -6,14 +6,14 @@ use std::test::Fail;
 use vw_io::{MemoryShelf, Shelf};
 
 /// A file of a world of 8 cells: version 0 is empty, and all cells of version 1 are set.
-const FULL: [u8; 80] = *b"VDAG\x01\0\0\0\x08\0\0\0\x02\0\0\0\x01\0\0\0\x01\0\0\0\
+pub const FULL: [u8; 80] = *b"VDAG\x01\0\0\0\x08\0\0\0\x02\0\0\0\x01\0\0\0\x01\0\0\0\
     \xff\xff\xff\xff\xff\xff\xff\xff\
     \x01\0\0\0\x01\0\0\0\x01\0\0\0\x01\0\0\0\x01\0\0\0\x01\0\0\0\x01\0\0\0\x01\0\0\0\
     \0\0\0\0\0\0\0\0\x01\0\0\0\x01\0\0\0";
 
 /// A file of a world of 16 cells, made by hand. Version 0 has the cells (4, 4, 4), (0, 8, 0) and
 /// (5, 12, 4), version 2 has eight cells, and version 5 has nine.
-const SIXTEEN: [u8; 260] = *b"VDAG\x01\0\0\0\x10\0\0\0\x03\0\0\0\x02\0\0\0\x03\0\0\0\x03\0\0\0\
+pub const SIXTEEN: [u8; 260] = *b"VDAG\x01\0\0\0\x10\0\0\0\x03\0\0\0\x02\0\0\0\x03\0\0\0\x03\0\0\0\
     \x01\0\0\0\0\0\0\0\x02\0\0\0\0\0\0\0\
     \0\0\0\0\0\0\0\0\0\0\0\0\0\0\0\0\0\0\0\0\0\0\0\0\0\0\0\0\x01\0\0\0\
     \x01\0\0\0\0\0\0\0\0\0\0\0\0\0\0\0\0\0\0\0\0\0\0\0\0\0\0\0\x02\0\0\0\

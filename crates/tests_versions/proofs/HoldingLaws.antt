@@ -48,7 +48,7 @@ use Rattle.tests_versions.proofs.UniformLaws.{first_edit, fits_first, fits_unifo
 use Rattle.tests_versions.specs.Holding.{HoldsLeaf, HoldsUniform, PinsBlank}
 use Rattle.tests_versions.specs.Uniform.{first_act, first_cells, leaf_tree, uniform_act, uniform_cells, uniform_tree}
 
-nothing_held : (held : List Tree) → SameHeld [] held → held ≡ []
+pub nothing_held : (held : List Tree) → SameHeld [] held → held ≡ []
 nothing_held [] same = refl
 nothing_held (t ∷ held) same =
     absurd (let e = same.weighs (λ _. 1) in let c = weigh-cons (λ _. 1) t held in

@@ -1,2 +1,3 @@
 pub mod UniformLaws
 pub mod HoldingLaws
+pub mod AppendingLaws

@@ -161,21 +161,84 @@ fn is_answered<R: Wait, L: Ledger>(
     n == 2 && told && second == (2, Shown::Kept(None)) && missing == (2, Shown::Missing)
 }
 
-/// Which of the three came as they should.
+// How long the log is before and behind a record that is appended without giving the turn back.
+#[derive(Clone, Copy, Debug, PartialEq, Eq)]
+struct Appended {
+    before: u32,
+    n: u32,
+    behind: u32,
+}
+
+// The first pass appends an empty world by line 7, and keeps the turn while the second one tries.
+// Told are the lengths, the words under the turn, and whether the second one got it.
+fn append_on<R: Wait>(
+    rt: &R,
+    table: &NodeTable,
+    a: &mut Pass,
+    b: &mut Pass,
+) -> Option<(Appended, [u64; 5], bool)>
+    requires first { IsSpare table.now a.old }
+    requires second { IsSpare table.now b.old }
+    requires side { table.now.plan.side ≡ 2 }
+    ensures first { IsSpare table.now a.new }
+    ensures second { IsSpare table.now b.new }
+{
+    let session = a.number();
+    let mut turn = table.log_turn(rt, a);
+    let before = turn.len();
+    if before >= 65_535 {
+        turn.leave();
+        return None;
+    }
+    let next = u64::from(before) + 1;
+    let by = u64::from(session) + (7 << 16);
+    let words = [1 + (next << 8) + (next << 32), PLACE, SIZE, 0, by];
+    let n = turn.append_on(words, None);
+    let behind = turn.len();
+    let told = turn.words(n);
+    let got = tries(table, b);
+    turn.leave();
+    Some((Appended { before, n, behind }, told, got))
+}
+
+const THIRD: [u64; 5] = [1 + (3 << 8) + (3 << 32), PLACE, SIZE, 0, 7 << 16];
+
+// Whether the third record comes so, and the second pass sees it once the turn is given back.
+fn is_appended<R: Wait>(rt: &R, table: &NodeTable, a: &mut Pass, b: &mut Pass) -> bool
+    requires first { IsSpare table.now a.old }
+    requires second { IsSpare table.now b.old }
+    requires side { table.now.plan.side ≡ 2 }
+    ensures first { IsSpare table.now a.new }
+    ensures second { IsSpare table.now b.new }
+{
+    let told = append_on(rt, table, a, b);
+    let lengths = Appended {
+        before: 2,
+        n: 3,
+        behind: 3,
+    };
+    let words = words_of(rt, table, b, 3);
+    let third = look_at(rt, table, b, 3);
+    told == Some((lengths, THIRD, false)) && words == Some(THIRD) && third == (3, Shown::Kept(None))
+}
+
+/// Which of the four came as they should.
 #[derive(Clone, Copy, Debug, PartialEq, Eq)]
 struct Came {
     seen: bool,
     answered: bool,
+    appended: bool,
     busy: bool,
 }
 
 const ALL: Came = Came {
     seen: true,
     answered: true,
+    appended: true,
     busy: true,
 };
 
-// All three, by two passes that come back.
+// All four, by two passes that come back.
 fn two_write<R: Wait, L: Ledger>(
     rt: &R,
     table: &NodeTable,
@@ -195,10 +258,12 @@ fn two_write<R: Wait, L: Ledger>(
     let mut steps: Steps<L> = Steps::start(blank);
     let seen = is_seen(rt, table, a, b, &mut steps);
     let answered = is_answered(rt, table, a, b, &mut steps);
+    let appended = is_appended(rt, table, a, b);
     let busy = is_busy(rt, table, a, b);
     Came {
         seen,
         answered,
+        appended,
         busy,
     }
 }

@@ -1,10 +1,12 @@
-ghost use Rattle.std.specs.Prelude.{◌≡◌, ◌≤◌, ◌-◌, option_copied};
+ghost use Rattle.std.specs.Prelude.{◌≡◌, ◌≤◌, ◌-◌, All, option_copied};
 ghost use Rattle.node_words.specs.descent.Roots.{HoldsRoot};
+ghost use Rattle.vox_read.specs.Contents.{IsInsideModel};
 
-use colour::{tint_at, tint_bounds, tint_ray, tints_in};
+use colour::{tint_at, tint_bounds, tint_ray, tints_in, tints_of};
 use history_model::Way;
 use measure::count;
 use node_words::{Blocks, Share};
+use std::alloc::Global;
 use vox_read::Voxel;
 use vw_cell::{Boxed, Cell, Side};
 
@@ -91,5 +93,31 @@ pub fn list_tints<B: Blocks>(
     match Boxed::new(b.at, b.size, plane) {
         Some(b) => tints_in(store, root, side, b, into).is_ok(),
         None => false,
+    }
+}
+
+/// The tints of some cells of the box, where it fits the world of tints and there is memory.
+pub fn some_tints<B: Blocks>(
+    alloc: Global,
+    store: &mut B,
+    root: Option<&Share>,
+    side: Side,
+    plane: Side,
+    b: Boxed,
+    voxels: &[Voxel],
+) -> Option<Vec<u8>>
+    requires root { HoldsRoot (B.seen store.old).held side (option_copied root) }
+    requires large { 4 ≤ side }
+    requires plane { plane ≡ side - 2 }
+    requires voxels { All (IsInsideModel b.size) voxels.now }
+    ensures seen { B.seen store.new ≡ B.seen store.old }
+    ensures rests { B.rests store.old store.new }
+{
+    if b.size.x > 256 || b.size.y > 256 || b.size.z > 256 {
+        return None;
+    }
+    match Boxed::new(b.at, b.size, plane) {
+        Some(b) => tints_of(alloc, store, root, side, b, voxels).ok(),
+        None => None,
     }
 }

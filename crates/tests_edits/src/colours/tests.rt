@@ -2,6 +2,7 @@ ghost use Rattle.std.specs.Prelude.{IfSome};
 ghost use Rattle.vox_read.specs.Contents.{AreModels};
 
 use crate::colours::asking::{Asked, Told};
+use crate::colours::cells::{Tinted, are_tints, voxels_of};
 use crate::colours::worlds::TintWorld;
 use colour::TintStencil;
 use history_model::TintAct;
@@ -45,7 +46,8 @@ const FILE: &[u8] =
 \x02\0\0\0XYZI\x1c\0\0\0\0\0\0\0\x06\0\0\0\0\0\0\x05\x01\0\0\x02\x01\0\0\xff\x02\x01\x01\x08\x02\
 \x01\x01\0\0\x01\0\x81";
 
-fn drawn_models(alloc: Global) -> Option<Models>
+/// That model alone.
+pub fn drawn_models(alloc: Global) -> Option<Models>
     ensures { IfSome result AreModels }
 {
     match read_models(alloc, FILE) {
@@ -292,6 +294,83 @@ fn voxels_have_their_tints(rt: HostRuntime) -> Result<(), Fail> {
     let mut world = TintWorld::empty(rt.alloc(), 8, 64, 64)?;
     assert!(rt; are_done(&mut world, TWO_CELLS));
     assert!(rt; lists(rt.alloc(), &mut world, WHOLE, TWO_VOXELS));
+    Ok(())
+}
+
+/// A box of 2 by 2 by 6 cells.
+const PART: Boxed = Boxed {
+    at: Cell { x: 1, y: 1, z: 0 },
+    size: Cell { x: 2, y: 2, z: 6 },
+};
+
+const HIGH: Boxed = Boxed {
+    at: Cell { x: 1, y: 1, z: 5 },
+    size: ONE,
+};
+
+const THREE_CELLS: &[TintAct] = &[
+    TintAct::Fill(CORNER, 6),
+    TintAct::Fill(FAR, 200),
+    TintAct::Fill(HIGH, 33),
+];
+
+/// Sides of worlds, acts on them, boxes, and cells of them with their tints then.
+const SOME_CELLS: &[(u32, &[TintAct], Boxed, &[Tinted])] = &[
+    (8, &[], WHOLE, &[[0, 0, 0, 0], [7, 7, 7, 0]]),
+    (
+        8,
+        THREE_CELLS,
+        WHOLE,
+        &[
+            [0, 0, 0, 6],
+            [1, 1, 5, 33],
+            [1, 2, 0, 200],
+            [0, 0, 0, 6],
+            [7, 7, 7, 0],
+        ],
+    ),
+    (
+        8,
+        THREE_CELLS,
+        PART,
+        &[[0, 1, 0, 200], [0, 0, 5, 33], [0, 0, 0, 0], [1, 1, 5, 0]],
+    ),
+    (
+        32,
+        &[TintAct::Fill(WIDE, 85), TintAct::Fill(CORNER, 170)],
+        WIDE,
+        &[
+            [31, 31, 31, 85],
+            [0, 0, 0, 170],
+            [16, 0, 0, 85],
+            [0, 0, 1, 85],
+        ],
+    ),
+    (8, THREE_CELLS, PART, &[]),
+];
+
+// Whether the cells have their tints after the acts on a world of this side.
+fn have_their_tints(
+    alloc: Global,
+    side: u32,
+    acts: &[TintAct],
+    part: Boxed,
+    cells: &[Tinted],
+) -> Result<(), Fail> {
+    let mut world = TintWorld::empty(alloc, side, 64, 64)?;
+    if !are_done(&mut world, acts) {
+        return Err("acts".into());
+    }
+    let voxels = voxels_of(alloc, part.size, cells)?;
+    let tints = world.tints(alloc, part, voxels.as_slice()).ok_or("tints")?;
+    are_tints(tints.as_slice(), cells)
+}
+
+#[test]
+fn some_cells_have_their_tints(rt: HostRuntime) -> Result<(), Fail> {
+    for &(side, acts, part, cells) in SOME_CELLS {
+        have_their_tints(rt.alloc(), side, acts, part, cells)?;
+    }
     Ok(())
 }
 

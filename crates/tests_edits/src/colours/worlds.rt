@@ -1,10 +1,11 @@
-ghost use Rattle.std.specs.Prelude.{◌≡◌, ◌<◌, ◌≤◌, ◌-◌, ◌^◌, IsTrue, IfOk, OnErr, option_copied};
+ghost use Rattle.std.specs.Prelude.{◌≡◌, ◌<◌, ◌≤◌, ◌-◌, ◌^◌, All, IsTrue, IfOk, OnErr, option_copied};
 ghost use Rattle.testkit.specs.worlds.Roots.{HoldsOnly, HoldsTwo};
 ghost use Rattle.vw_cell.specs.Places.{FitsAt, IsInWorld};
+ghost use Rattle.vox_read.specs.Contents.{IsInsideModel};
 ghost use Rattle.history_model.specs.Tints.{IsTint};
 ghost use Rattle.colour.specs.Inks.{FitsInk};
 
-use crate::colours::asking::{Asked, Told, answer, list_tints};
+use crate::colours::asking::{Asked, Told, answer, list_tints, some_tints};
 use colour::{TintStencil, rebuild_tint};
 use edit_walk::back_if;
 use history_model::TintAct;
@@ -82,6 +83,13 @@ impl TintWorld {
     /// Appends the voxels of the box, where it fits the world and there is memory.
     pub fn voxels(&mut self, b: Boxed, into: &mut Vec<Voxel>) -> bool {
         voxels(&mut self.store, self.side, self.plane, b, into)
+    }
+
+    /// The tints of some cells of the box, where it fits the world and there is memory.
+    pub fn tints(&mut self, alloc: Global, b: Boxed, cells: &[Voxel]) -> Option<Vec<u8>>
+        requires { All (IsInsideModel b.size) cells.now }
+    {
+        tints(alloc, &mut self.store, self.side, self.plane, b, cells)
     }
 }
 
@@ -227,4 +235,27 @@ fn voxels(store: &mut OneStore, side: Side, plane: Side, b: Boxed, into: &mut Ve
     let listed = list_tints(store, root.as_ref(), side, plane, b, into);
     store.keep_root(0, root);
     listed
+}
+
+fn tints(
+    alloc: Global,
+    store: &mut OneStore,
+    side: Side,
+    plane: Side,
+    b: Boxed,
+    cells: &[Voxel],
+) -> Option<Vec<u8>>
+    requires side { side ≡ store.old.words.plan.side }
+    requires large { 4 ≤ side }
+    requires plane { plane ≡ side - 2 }
+    requires cells { All (IsInsideModel b.size) cells.now }
+    ensures { store.new.words.plan ≡ store.old.words.plan }
+{
+    if store.held() > 0 {
+        return None;
+    }
+    let root = store.take_root(0);
+    let told = some_tints(alloc, store, root.as_ref(), side, plane, b, cells);
+    store.keep_root(0, root);
+    told
 }
