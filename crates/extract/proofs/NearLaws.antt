@@ -12,6 +12,7 @@ use Rattle.node_words.specs.shapes.Shape.{Shape, bits_of, octant_shape}
 use Rattle.node_words.specs.shapes.Tree.{Tree, shape_of}
 use Rattle.node_words.specs.Held.{StoreState, bits_of_leaf}
 use Rattle.node_words.specs.descent.Parts.{placed}
+use Rattle.node_words.specs.descent.Roots.{ForBlock}
 use Rattle.node_words.proofs.OfDescent.PartLaws.{placed_in}
 use Rattle.measure.specs.Exposed.{PassesExposed, across, beside_shape, exposed_of, is_next_set, stays}
 use Rattle.measure.specs.Faces.{passes_exposed}
@@ -29,6 +30,12 @@ use Rattle.extract.specs.declared.near_leaves.NearLeaves.{NearLeaves}
 use Rattle.extract.specs.declared.surrounded.Surrounded.{Surrounded}
 use Rattle.extract.proofs.FillLaws.{LiesAmong, leaf_fills}
 use Rattle.extract.proofs.SideLaws.{across_below}
+
+-- what is told of a block's leaves stays so while what is seen stays
+pub bits_still : (a b : StoreState) (block : Option Name) (bits : List ℕ) → b ≡ a
+    → ForBlock a.held 1 block (HaveBits bits) → ForBlock b.held 1 block (HaveBits bits)
+bits_still a b block bits e told =
+    subst (λ (st : StoreState). ForBlock st.held 1 block (HaveBits bits)) (sym e) told
 
 -- the bare cells of a leaf, by its bits and those of the leaf next to it
 bits_next : (v : Bool) (block beside : List ℕ) (s u : Shape) (j : ℕ) → j < 8 → HaveBits block s

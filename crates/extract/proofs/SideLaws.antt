@@ -165,6 +165,11 @@ octants_still a b level block names e told =
     subst (λ (st : StoreState). (k : ℕ) → k < 8
     → IsOctantOf st.held level block k (name_in names k)) e told
 
+pub names_still : (a b : StoreState) (level : ℕ) (block : Option Name) (names : List (Option Name))
+    → b ≡ a → ((k : ℕ) → k < 8 → IsOctantOf a.held level block k (name_in names k))
+    → (k : ℕ) → k < 8 → IsOctantOf b.held level block k (name_in names k)
+names_still a b level block names e told = octants_still b a level block names (sym e) told
+
 pub beside_block : (held : List Tree) (level : ℕ) (s : Surrounded) (d : Direction)
     → HasSides held level s → HasBlock held level (beside_of s d)
 beside_block held level s d has =

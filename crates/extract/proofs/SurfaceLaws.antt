@@ -23,7 +23,7 @@ use Rattle.node_words.proofs.OfDescent.LookLaws.{root_side}
 use Rattle.extract.specs.Listing.{voxels_joined}
 use Rattle.extract.specs.Layers.{HasRoom, AppendsVoxels, HoldsLayer, IsSmallLayer, bits_show, leaves_along, leaves_in}
 use Rattle.extract.specs.Surface.{sides_number, bare_sides_of, voxel_of_sides, row_of_sides, layer_of_sides, surface_of_box}
-use Rattle.extract.specs.BareLayers.{HoldsBare, HoldsSlab, CountsBlank, CountsFrom, IsAny, IsBlank, IsRowUnset, leaf_at, leaf_sides, part_of_row, run_of_sides}
+use Rattle.extract.specs.BareLayers.{HoldsBare, HoldsSlab, CountsBlank, CountsFrom, IsAny, IsBlank, IsRowUnset, leaf_at, TellsRow, leaf_sides, part_of_row, run_of_sides, run_told}
 use Rattle.extract.specs.declared.bare_layers.BareLayer.{BareLayer}
 use Rattle.extract.specs.declared.bare_layers.BareLeaf.{BareLeaf}
 use Rattle.extract.specs.declared.bare_layers.Slab.{Slab}
@@ -207,6 +207,17 @@ no_row leaf any n at to h fits row =
     let inside : at.x + p < 4 = omega (arith, fits, lt) in
     ap (λ (s : ℕ). voxel_of_sides s (to.x + p) to.y to.z)
     (h.unset (cell_at (at.x + p) at.y at.z) (row.each (at.x + p) inside)))
+
+-- a row that was told shows what its leaf has
+pub run_is_told : (row x m n : ℕ) (leaf : BareLeaf) (at to : Cell) → x ≡ at.x → m ≡ n
+    → at.x + n ≤ 4 → TellsRow row leaf at.y at.z
+    → run_told row x m to ≡ run_of_sides leaf at n to
+run_is_told row x m n leaf at to e f fits told =
+    ap (λ (k : ℕ). run_told row x k to) f
+    ∙ joined-same n _ _ (λ p lt.
+    ap (λ (s : ℕ). voxel_of_sides s (to.x + p) to.y to.z)
+    (ap (λ (k : ℕ). row / 2 ^ (8 * (k + p)) % 256) e
+    ∙ told.each (at.x + p) (omega (arith, fits, lt))))
 
 -- a cell without a bare side, and one with some
 pub no_sides : {Z : Type 0} (n x y z : ℕ) (v : Vec Voxel Z) → n ≡ 0

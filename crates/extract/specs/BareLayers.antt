@@ -90,6 +90,11 @@ run_of_sides leaf at n to =
     voxels_joined n
     (λ p. voxel_of_sides (leaf_sides leaf (cell_at (at.x + p) at.y at.z)) (to.x + p) to.y to.z)
 
+-- the same by what is told of the four cells of a row, from the x-th on
+abbrev pub run_told : ℕ → ℕ → ℕ → Cell → List Voxel
+run_told row x n to =
+    voxels_joined n (λ p. voxel_of_sides (row / 2 ^ (8 * (x + p)) % 256) (to.x + p) to.y to.z)
+
 -- n cells of a row of a box from the p-th on
 abbrev pub part_of_row : (Cell → ℕ) → Boxed → ℕ → ℕ → ℕ → ℕ → List Voxel
 part_of_row sides b z y p n =

@@ -4,6 +4,7 @@ ghost use Rattle.vw_cell.specs.declared.directions.Direction.{Direction};
 ghost use Rattle.node_words.specs.shapes.Shape.{Shape, octant_shape};
 ghost use Rattle.node_words.specs.shapes.Tree.{Tree};
 ghost use Rattle.node_words.specs.Held.{bits_of_leaf};
+ghost use Rattle.node_words.specs.descent.Roots.{HasBlock, ForBlock};
 ghost use Rattle.measure.specs.Exposed.{across, beside_shape, exposed_of, stays};
 ghost use Rattle.measure.specs.Faces.{passes_exposed};
 ghost use Rattle.measure.specs.Leaves.{BitsPassTest};
@@ -14,7 +15,7 @@ ghost use Rattle.extract.specs.declared.surrounded.Surrounded.{Surrounded};
 use crate::bare_layers::BareLeaf;
 use crate::surrounded::Surrounded;
 use measure::{across, next_bits, stays};
-use node_words::{Blocks, octant_bits};
+use node_words::{Blocks, Name, octant_bits, same_names};
 use vw_cell::Direction;
 
 /// The bits of the eight leaves of a block, and of those of the blocks beside it.
@@ -30,7 +31,7 @@ pub(crate) struct NearLeaves {
 }
 
 impl NearLeaves {
-    /// Each of the seven is looked at once.
+    /// Each of the seven is looked at once at most.
     #[inline(always)]
     pub(crate) fn of<B: Blocks>(store: &mut B, subject: &Surrounded) -> NearLeaves
         requires block { HasSides (B.seen store.old).held 1 subject.now }
@@ -39,12 +40,12 @@ impl NearLeaves {
         ensures rests { B.rests store.old store.new }
     {
         let block = octant_bits(store, subject.block);
-        let low_x = octant_bits(store, subject.low_x);
-        let high_x = octant_bits(store, subject.high_x);
-        let low_y = octant_bits(store, subject.low_y);
-        let high_y = octant_bits(store, subject.high_y);
-        let low_z = octant_bits(store, subject.low_z);
-        let high_z = octant_bits(store, subject.high_z);
+        let low_x = bits_beside(store, subject.block, &block, subject.low_x);
+        let high_x = bits_beside(store, subject.block, &block, subject.high_x);
+        let low_y = bits_beside(store, subject.block, &block, subject.low_y);
+        let high_y = bits_beside(store, subject.block, &block, subject.high_y);
+        let low_z = bits_beside(store, subject.block, &block, subject.low_z);
+        let high_z = bits_beside(store, subject.block, &block, subject.high_z);
         NearLeaves {
             block,
             low_x,
@@ -80,6 +81,26 @@ impl NearLeaves {
             high_z,
         }
     }
+}
+
+// The bits of a block beside, which are the block's own where the same stands in both.
+#[inline(always)]
+fn bits_beside<B: Blocks>(
+    store: &mut B,
+    block: Option<Name>,
+    bits: &[u64; 8],
+    beside: Option<Name>,
+) -> [u64; 8]
+    requires bits { ForBlock (B.seen store.old).held 1 block (HaveBits bits.now) }
+    requires beside { HasBlock (B.seen store.old).held 1 beside }
+    ensures bits { ForBlock (B.seen store.old).held 1 beside (HaveBits result) }
+    ensures seen { B.seen store.new ≡ B.seen store.old }
+    ensures rests { B.rests store.old store.new }
+{
+    if same_names(block, beside) {
+        return *bits;
+    }
+    octant_bits(store, beside)
 }
 
 // The same towards one direction.

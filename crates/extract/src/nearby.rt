@@ -1,12 +1,13 @@
-ghost use Rattle.std.specs.Prelude.{◌≡◌, ◌<◌, ◌≤◌, if◌then◌else◌};
+ghost use Rattle.std.specs.Prelude.{◌≡◌, ℕ, ◌<◌, ◌≤◌, if◌then◌else◌};
 ghost use Rattle.vw_cell.specs.declared.directions.Direction.{Direction};
 ghost use Rattle.node_words.specs.Held.{name_in};
+ghost use Rattle.node_words.specs.descent.Roots.{HasBlock, IsOctantOf};
 ghost use Rattle.measure.specs.Exposed.{across, stays};
 ghost use Rattle.extract.specs.Sides.{AreNear, HasSides, beside_of, names_towards};
 
 use crate::surrounded::Surrounded;
 use measure::{across, stays};
-use node_words::{Blocks, Name, octant_names};
+use node_words::{Blocks, Name, octant_names, same_names};
 use vw_cell::Direction;
 
 /// What stands in the octants of a block, and in those of the blocks beside it.
@@ -22,7 +23,7 @@ pub(crate) struct Nearby {
 }
 
 impl Nearby {
-    /// Each of the seven is looked at once.
+    /// Each of the seven is looked at once at most.
     #[inline(always)]
     pub(crate) fn of<B: Blocks>(store: &mut B, level: u8, subject: &Surrounded) -> Nearby
         requires level { 1 ≤ level }
@@ -32,12 +33,12 @@ impl Nearby {
         ensures rests { B.rests store.old store.new }
     {
         let block = octant_names(store, level, subject.block);
-        let low_x = octant_names(store, level, subject.low_x);
-        let high_x = octant_names(store, level, subject.high_x);
-        let low_y = octant_names(store, level, subject.low_y);
-        let high_y = octant_names(store, level, subject.high_y);
-        let low_z = octant_names(store, level, subject.low_z);
-        let high_z = octant_names(store, level, subject.high_z);
+        let low_x = names_beside(store, level, subject.block, &block, subject.low_x);
+        let high_x = names_beside(store, level, subject.block, &block, subject.high_x);
+        let low_y = names_beside(store, level, subject.block, &block, subject.low_y);
+        let high_y = names_beside(store, level, subject.block, &block, subject.high_y);
+        let low_z = names_beside(store, level, subject.block, &block, subject.low_z);
+        let high_z = names_beside(store, level, subject.block, &block, subject.high_z);
         Nearby {
             block,
             low_x,
@@ -69,6 +70,30 @@ impl Nearby {
             high_z: name_across(block, &self.high_z, Direction::HighZ, octant),
         }
     }
+}
+
+// What stands in the octants of a block beside, as in the block's own where both are the same.
+#[inline(always)]
+fn names_beside<B: Blocks>(
+    store: &mut B,
+    level: u8,
+    block: Option<Name>,
+    names: &[Option<Name>; 8],
+    beside: Option<Name>,
+) -> [Option<Name>; 8]
+    requires level { 1 ≤ level }
+    requires names { (k : ℕ) → k < 8
+        → IsOctantOf (B.seen store.old).held level block k (name_in names.now k) }
+    requires beside { HasBlock (B.seen store.old).held level beside }
+    ensures octants { (k : ℕ) → k < 8
+        → IsOctantOf (B.seen store.old).held level beside k (name_in result k) }
+    ensures seen { B.seen store.new ≡ B.seen store.old }
+    ensures rests { B.rests store.old store.new }
+{
+    if same_names(block, beside) {
+        return *names;
+    }
+    octant_names(store, level, beside)
 }
 
 // What stands beside an octant in one direction, in its block or in the one beside that.

@@ -7,7 +7,7 @@ ghost use Rattle.extract.specs.Listing.{voxels_joined};
 ghost use Rattle.extract.specs.Layers.{IsRow, IsSmallLayer, HasRoom, AppendsVoxels, leaves_along, leaves_in};
 ghost use Rattle.extract.specs.Sides.{AreFound};
 ghost use Rattle.extract.specs.Surface.{bare_sides_of, layer_of_sides, row_of_sides, surface_of_box, voxel_of_sides};
-ghost use Rattle.extract.specs.BareLayers.{HoldsSlab, IsAny, IsRowUnset, leaf_at, part_of_row, run_of_sides};
+ghost use Rattle.extract.specs.BareLayers.{HoldsSlab, IsAny, IsRowUnset, leaf_at, part_of_row, run_of_sides, run_told};
 
 use crate::alike::Found;
 use crate::bare_layers::{BareLeaf, Slab, gather_slab, leaf_of};
@@ -282,8 +282,24 @@ fn cells_in_room(leaf: BareLeaf, at: Cell, n: u16, to: Cell, into: &mut Vec<Voxe
     ensures { AppendsVoxels (run_of_sides leaf at n to) into.old into.new }
 {
     let row = row_sides(leaf, at.y, at.z);
+    if n == 4 {
+        sides_in_room(row, 0, 4, to, into);
+        return;
+    }
+    sides_in_room(row, at.x, n, to, into);
+}
+
+// The same by the sides of the row's four cells, from the x-th on. Where both numbers are constants
+// the compiler takes the loop apart.
+#[inline(always)]
+fn sides_in_room(row: u64, x: u16, n: u16, to: Cell, into: &mut Vec<Voxel>)
+    requires x { x + n ≤ 4 }
+    requires to { (to.x + n ≤ 256) × (to.y < 256) × (to.z < 256) }
+    requires room { HasRoom into.old (length (run_told row x n to)) }
+    ensures { AppendsVoxels (run_told row x n to) into.old into.new }
+{
     for p in 0..n {
-        let sides = sides_in(row, at.x + p);
+        let sides = sides_in(row, x + p);
         push_sides(sides, Cell { x: to.x + p, ..to }, into);
     }
 }

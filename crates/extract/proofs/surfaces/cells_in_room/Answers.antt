@@ -1,38 +1,31 @@
-use Rattle.std.proofs.Common.{◌+◌, ◌∙◌, ℕ, arith, length, subst, sym}
-use Rattle.vw_cell.specs.Counts.{cell_at}
+use Rattle.std.proofs.Common.{List, arith, length, refl, subst, sym}
+use Rattle.vox_read.specs.declared.voxels.Voxel.{Voxel}
 use Rattle.extract.specs.Layers.{HasRoom, AppendsVoxels}
-use Rattle.extract.specs.Surface.{voxel_of_sides}
-use Rattle.extract.specs.BareLayers.{leaf_sides}
-use Rattle.extract.proofs.ListingLaws.{none_joined, appends_one, room_one}
+use Rattle.extract.proofs.SurfaceLaws.{run_is_told}
 use Rattle.extract.proofs.surfaces.cells_in_room.Goals as goal
 
-pub loop-p-init : goal.loop-p-init
-loop-p-init c = none_joined _ c.args.into.now
+pub sides_in_room-requires-clause-room : goal.sides_in_room-requires-clause-room
+sides_in_room-requires-clause-room c =
+    subst (λ (xs : List Voxel). HasRoom c.args.into.now (length xs))
+    (sym (run_is_told _ 0 4 c.args.n c.args.leaf c.args.at c.args.to
+    (omega (arith, c.requires.row.x)) (omega arith) c.requires.row.x c.row_sides-row.ensures))
+    c.requires.room
 
-pub push_sides-requires-clause-room : goal.push_sides-requires-clause-room
-push_sides-requires-clause-room c =
-    let at = c.args.at in
-    let to = c.args.to in
-    let told =
-    c.sides_in-sides.ensures
-    ∙ c.row_sides-row.ensures.each (at.x + c.loop-p.p)
-    (omega (arith, c.loop-p-test.true, c.requires.row.x)) in
-    subst (λ (s : ℕ). HasRoom c.loop-p.into
-    (length (voxel_of_sides s (to.x + c.loop-p.p) to.y to.z))) (sym told)
-    (room_one c.loop-p.p c.args.n
-    (λ p. voxel_of_sides (leaf_sides c.args.leaf (cell_at (at.x + p) at.y at.z)) (to.x + p) to.y to.z)
-    c.args.into.now c.loop-p.into c.loop-p-test.true c.requires.room c.loop-p.invariant)
+pub returns-then-n-eq4 : goal.returns-then-n-eq4
+returns-then-n-eq4 c =
+    subst (λ (xs : List Voxel). AppendsVoxels xs c.args.into.now c.sides_in_room.new.into)
+    (run_is_told _ 0 4 c.args.n c.args.leaf c.args.at c.args.to
+    (omega (arith, c.requires.row.x)) (omega arith) c.requires.row.x c.row_sides-row.ensures)
+    c.sides_in_room.ensures
 
-pub loop-p-preserved : goal.loop-p-preserved
-loop-p-preserved c =
-    let at = c.args.at in
-    let to = c.args.to in
-    let told =
-    c.sides_in-sides.ensures
-    ∙ c.row_sides-row.ensures.each (at.x + c.loop-p.p)
-    (omega (arith, c.loop-p-test.true, c.requires.row.x)) in
-    appends_one c.loop-p.p
-    (λ p. voxel_of_sides (leaf_sides c.args.leaf (cell_at (at.x + p) at.y at.z)) (to.x + p) to.y to.z)
-    c.args.into.now c.loop-p.into c.push_sides.new.into c.loop-p.invariant
-    (subst (λ (s : ℕ). AppendsVoxels (voxel_of_sides s (to.x + c.loop-p.p) to.y to.z) c.loop-p.into
-    c.push_sides.new.into) told c.push_sides.ensures)
+pub sides_in_room-requires-2-clause-room : goal.sides_in_room-requires-2-clause-room
+sides_in_room-requires-2-clause-room c =
+    subst (λ (xs : List Voxel). HasRoom c.args.into.now (length xs))
+    (sym (run_is_told _ c.args.at.x c.args.n c.args.n c.args.leaf c.args.at c.args.to refl refl
+    c.requires.row.x c.row_sides-row.ensures)) c.requires.room
+
+pub returns : goal.returns
+returns c =
+    subst (λ (xs : List Voxel). AppendsVoxels xs c.args.into.now c.sides_in_room-2.new.into)
+    (run_is_told _ c.args.at.x c.args.n c.args.n c.args.leaf c.args.at c.args.to refl refl
+    c.requires.row.x c.row_sides-row.ensures) c.sides_in_room-2.ensures
